@@ -1,14 +1,15 @@
 -- Calls: what each way through the code does.
 use Prim.Native.Nat.{ℕ, ◌+◌, ◌-◌, ◌*◌, ◌%◌, ◌≤◌, ◌<◌}
 use mathlib.Core.Path.{◌≡◌, refl, ◌∙◌}
-use mathlib.Core.Bool.{true, false}
+use Rattle.std.specs.Prelude.{Ok, Err}
+use Rattle.machine.specs.declared.Fault.TheVariants.{Misuse}
 use mathlib.Core.List.{List}
 use native.Mathlib.Omega.{arith}
 use lib.ListN.{get_or, set, length, length-set}
 use borrow.Author.Tests.{lt-ltb, le-ltb}
 use Rattle.machine.specs.Words.{kind_nothing, packed}
 use Rattle.machine.specs.Layout.{declared, arguments_held, calls_used, running, loop_unit, frame, stack_words, fixed_words, call_place, argument_place, first_argument}
-use Rattle.machine.specs.Act.{go_on, give, fail, refuse, load, store, passed, Passes, Gives, ◌>>=◌}
+use Rattle.machine.specs.Act.{go_on, give, fail, refuse, load, store, out_of, Does, Gives, ◌>>=◌}
 use Rattle.machine.specs.Stack.{drop_to}
 use Rattle.machine.specs.Procedures.{keep, recall, first_word, frame_from, open_frame, resume}
 use Rattle.meaning.specs.Basics.{if◌then◌otherwise◌}
@@ -75,16 +76,16 @@ module _ (ws₀ : List ℕ) (top m n : ℕ) (ws : List ℕ) (k : ℕ) (g : Turns
   unfolding frame_from give
   all_framed h = rw (from_none n) at (turns_last (frame_from top m) 0 n ws₀ ws k g h (λ ts. refl))
 
-module _ (ws : List ℕ) (top m n : ℕ) where
-  pub top_beyond : stack_words < top → Passes ws 20 (open_frame top m n) false ws
-  unfolding open_frame ◌>>=◌ go_on refuse fail passed
-  top_beyond h = record { equal = λ p ts. rw (lt-ltb stack_words (top + n) (omega arith)) }
+module _ (ws : List ℕ) (top m n p : ℕ) where
+  pub top_beyond : stack_words < top → Does ws (open_frame top m n p) (Err (Misuse p)) ws
+  unfolding open_frame ◌>>=◌ go_on refuse fail out_of
+  top_beyond h = record { equal = λ ts. rw (lt-ltb stack_words (top + n) (omega arith)) }
 
-  pub stack_full : top ≤ stack_words → stack_words - top < n → Passes ws 20 (open_frame top m n) false ws
-  unfolding open_frame ◌>>=◌ go_on refuse fail passed
-  stack_full l h = record { equal = λ p ts. rw (lt-ltb stack_words (top + n) (omega arith)) }
+  pub stack_full : top ≤ stack_words → stack_words - top < n → Does ws (open_frame top m n p) (Err (Misuse p)) ws
+  unfolding open_frame ◌>>=◌ go_on refuse fail out_of
+  stack_full l h = record { equal = λ ts. rw (lt-ltb stack_words (top + n) (omega arith)) }
 
   pub opened : (ws₁ : List ℕ) → top ≤ stack_words → n ≤ stack_words - top → Gives ws (frame_from top m 0 n) tt ws₁
-      → Passes ws 20 (open_frame top m n) true (set (set (set ws₁ frame top) declared m) arguments_held (top + n))
-  unfolding open_frame ◌>>=◌ go_on refuse give store passed
-  opened ws₁ l h g = record { equal = λ p ts. rw (le-ltb stack_words (top + n) (omega arith), ← g.equal ts) }
+      → Does ws (open_frame top m n p) (Ok tt) (set (set (set ws₁ frame top) declared m) arguments_held (top + n))
+  unfolding open_frame ◌>>=◌ go_on refuse give store out_of
+  opened ws₁ l h g = record { equal = λ ts. rw (le-ltb stack_words (top + n) (omega arith), ← g.equal ts) }

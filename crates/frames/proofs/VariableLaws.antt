@@ -8,11 +8,13 @@ use lib.ListN.{get_or, set}
 use lib.Dec.{eqb}
 use borrow.Author.Tests.{ne_eqb}
 use Rattle.machine.specs.declared.Value.{Value}
-use Rattle.machine.specs.declared.Answer.TheVariants.{Good, Bad}
+use Rattle.std.specs.Prelude.{Result, Ok, Err}
+use Rattle.machine.specs.declared.Fault.{Fault}
+use Rattle.machine.specs.declared.Fault.TheVariants.{Destroyed, Undeclared, DeclaredTwice}
 use Rattle.machine.specs.Words.{kind_in, kind_nothing, kind_shape, number_in, packed, unpacked}
 use Rattle.values.proofs.Laws.{unpacked_shape, by_kind}
 use Rattle.machine.specs.Layout.{declared, frame, argument_place}
-use Rattle.machine.specs.Act.{raw, Out, done, stop, go_on, give, fail, refuse, load, store, held, shown, passed, Answers, Passes, Gives, ◌>>=◌}
+use Rattle.machine.specs.Act.{raw, Out, done, stop, go_on, give, fail, refuse, load, store, held, out_of, Does, Gives, ◌>>=◌}
 use Rattle.machine.specs.Shapes.{destroyed_at}
 use Rattle.machine.specs.Variables.{is_dead, usable, word_in, order_in, with_word, with_order, holding_at, number_of, holding_of, holding, is_declared, variable, set_variable, set_order, declare, declare_once}
 use Rattle.machine.specs.Stack.{argument_at}
@@ -46,16 +48,16 @@ pub is_declared_lem : (ws : List ℕ) (n w : ℕ) → w ≡ holding ws n → not
 is_declared_lem ws n w h = rw h
 
 module _ (ws : List ℕ) (p n w : ℕ) (h : w ≡ holding ws n) where
-  pub unknown : w ≡ 0 → Answers ws (variable p n) (Bad 50 p) ws
-  unfolding variable ◌>>=◌ go_on held refuse fail shown
+  pub unknown : w ≡ 0 → Does ws (variable p n) (Err (Undeclared p)) ws
+  unfolding variable ◌>>=◌ go_on held refuse fail out_of
   unknown e = record { equal = λ ts. rw (← h, e) }
 
-  pub dead : (b : Bool) → (w ≡ 0 → ⊥) → b ≡ is_dead ws (unpacked w) → b ≡ true → Answers ws (variable p n) (Bad 30 p) ws
-  unfolding variable ◌>>=◌ go_on held refuse fail give usable shown
+  pub dead : (b : Bool) → (w ≡ 0 → ⊥) → b ≡ is_dead ws (unpacked w) → b ≡ true → Does ws (variable p n) (Err (Destroyed p)) ws
+  unfolding variable ◌>>=◌ go_on held refuse fail give usable out_of
   dead b e d t = record { equal = λ ts. rw (← h, ne_eqb _ _ e, ← d, t) }
 
-  pub found : (b : Bool) (v : Value) → (w ≡ 0 → ⊥) → b ≡ is_dead ws (unpacked w) → b ≡ false → v ≡ unpacked w → Answers ws (variable p n) (Good v) ws
-  unfolding variable ◌>>=◌ go_on held refuse fail give usable shown
+  pub found : (b : Bool) (v : Value) → (w ≡ 0 → ⊥) → b ≡ is_dead ws (unpacked w) → b ≡ false → v ≡ unpacked w → Does ws (variable p n) (Ok v) ws
+  unfolding variable ◌>>=◌ go_on held refuse fail give usable out_of
   found b v e d t q = record { equal = λ ts. rw (q, ← h, ne_eqb _ _ e, ← d, t) }
 
 module _ (ws : List ℕ) (at : ℕ) where
@@ -68,28 +70,28 @@ module _ (ws : List ℕ) (at : ℕ) where
   sets_order k n w e f = record { equal = λ ts. rw (f, ← e) }
 
 module _ (ws : List ℕ) (n : ℕ) where
-  pub declared_before : (b : Bool) → b ≡ is_declared ws n → b ≡ true → Passes ws 60 (declare n) false ws
-  unfolding declare ◌>>=◌ go_on held refuse fail passed
-  declared_before b e t = record { equal = λ p ts. rw (← e, t) }
+  pub declared_before : (p : ℕ) (b : Bool) → b ≡ is_declared ws n → b ≡ true → Does ws (declare n p) (Err (DeclaredTwice p)) ws
+  unfolding declare ◌>>=◌ go_on held refuse fail out_of
+  declared_before p b e t = record { equal = λ ts. rw (← e, t) }
 
-  pub declares : (b : Bool) (ws₁ ws₂ : List ℕ) (k : ℕ) → b ≡ is_declared ws n → b ≡ false → Gives ws (set_variable n kind_nothing) tt ws₁ → k ≡ get_or ws₁ declared 0
-      → Gives ws₁ (set_order k n) tt ws₂ → Passes ws 60 (declare n) true (set ws₂ declared (k % 8192 + 1))
-  unfolding declare ◌>>=◌ go_on held load store refuse give passed packed
-  declares b ws₁ ws₂ k e t g d h = record { equal = λ p ts. rw (← e, t, ← g.equal ts, ← d, ← h.equal ts) }
+  pub declares : (p : ℕ) (b : Bool) (ws₁ ws₂ : List ℕ) (k : ℕ) → b ≡ is_declared ws n → b ≡ false → Gives ws (set_variable n kind_nothing) tt ws₁ → k ≡ get_or ws₁ declared 0
+      → Gives ws₁ (set_order k n) tt ws₂ → Does ws (declare n p) (Ok tt) (set ws₂ declared (k % 8192 + 1))
+  unfolding declare ◌>>=◌ go_on held load store refuse give out_of packed
+  declares p b ws₁ ws₂ k e t g d h = record { equal = λ ts. rw (← e, t, ← g.equal ts, ← d, ← h.equal ts) }
 
-  declared_done : (ts ws' : List ℕ) → is_declared ws n ≡ false → ◌≡◌ {A = Out (Unit {0})} (stop 60 0 (raw ts ws')) (declare n 0 (raw ts ws)) → ⊥
+  declared_done : (ts ws' : List ℕ) (m q : ℕ) → is_declared ws n ≡ false → ◌≡◌ {A = Out (Unit {0})} (stop m q (raw ts ws')) (declare n 0 (raw ts ws)) → ⊥
   unfolding declare set_variable set_order ◌>>=◌ go_on held load store refuse give packed
-  declared_done ts ws' e q = not_stopped (sym (rw e at q))
+  declared_done ts ws' m p e q = not_stopped (sym (rw e at q))
 
-  pub declares_once : (ok : Bool) (ws' : List ℕ) → Passes ws 60 (declare n) ok ws' → Gives ws (declare_once n) tt ws'
-  unfolding declare_once ◌>>=◌ go_on held give passed if◌then◌otherwise◌ words_in
-  declares_once ok ws' h = record { equal = λ ts. go ts ok (is_declared ws n) refl (h.equal 0 ts) }
+  pub declares_once : (r : Result (Unit {0}) Fault) (ws' : List ℕ) → Does ws (declare n 0) r ws' → Gives ws (declare_once n) tt ws'
+  unfolding declare_once ◌>>=◌ go_on held give out_of if◌then◌otherwise◌ words_in
+  declares_once r ws' h = record { equal = λ ts. go ts r (is_declared ws n) refl (h.equal ts) }
     where
-      go : (ts : List ℕ) (ok z : Bool) → is_declared ws n ≡ z → passed ok 60 0 ts ws' ≡ declare n 0 (raw ts ws)
+      go : (ts : List ℕ) (r : Result (Unit {0}) Fault) (z : Bool) → is_declared ws n ≡ z → out_of r ts ws' ≡ declare n 0 (raw ts ws)
           → ◌≡◌ {A = Out (Unit {0})} (done tt (raw ts ws')) (declare_once n (raw ts ws))
-      go ts true true e q = absurd (not_stopped (q ∙ sym ((declared_before true (sym e) refl).equal 0 ts)))
-      go ts true false e q = q ∙ rw e
-      go ts false true e q =
-          let w : ws' ≡ ws = ap words_in (q ∙ sym ((declared_before true (sym e) refl).equal 0 ts)) in
+      go ts (Ok tt) true e q = absurd (not_stopped (q ∙ sym ((declared_before 0 true (sym e) refl).equal ts)))
+      go ts (Ok tt) false e q = q ∙ rw e
+      go ts (Err f) true e q =
+          let w : ws' ≡ ws = ap words_in (q ∙ sym ((declared_before 0 true (sym e) refl).equal ts)) in
           rw (w, e)
-      go ts false false e q = absurd (declared_done ts ws' e q)
+      go ts (Err f) false e q = absurd (declared_done ts ws' _ _ e q)

@@ -1,10 +1,10 @@
 // Calls of procedures: what belongs to the call under way stands in counters, that of a call that waits in four words of its own.
 ghost use Rattle.std.specs.Prelude.{◌+◌, ◌≤◌, ◌≡◌, length};
 ghost use Rattle.machine.specs.Layout.{fixed_words, stack_words, call_place};
-ghost use Rattle.machine.specs.Act.{Passes, Gives};
+ghost use Rattle.machine.specs.Act.{Does, Gives};
 ghost use Rattle.machine.specs.Procedures.{keep, recall, first_word, frame_from, open_frame, resume};
 
-use machine::{counters, frame_words, kinds, layout};
+use machine::{Fault, counters, frame_words, kinds, layout};
 use stores::arguments;
 
 // The first of the d-th call's words.
@@ -67,27 +67,25 @@ fn put_frame(words: &mut [u64], top: usize, m: usize, n: usize)
     requires n_bound { top + n ≤ stack_words }
     ensures { Gives words.old (frame_from top m 0 n) tt words.new }
 {
-    let mut k = 0;
-    while k < n {
+    for k in 0..n {
         words[layout::FIRST_ARGUMENT + top + k] = first_word(m, k);
-        k += 1;
     }
 }
 
-// A frame of n words from top on, with m parameters; not if the stack is full.
-pub fn open_frame(words: &mut [u64], top: usize, m: usize, n: usize) -> bool
+// A frame of n words from top on, with m parameters; fails at a place if the stack is full.
+pub fn open_frame(words: &mut [u64], top: usize, m: usize, n: usize, p: u64) -> Result<(), Fault>
     requires { fixed_words ≤ length words.old }
-    ensures { Passes words.old 20 (open_frame top m n) result words.new }
+    ensures { Does words.old (open_frame top m n p) result words.new }
 {
     if layout::STACK_WORDS < top {
-        return false;
+        return Err(Fault::Misuse(p));
     }
     if layout::STACK_WORDS - top < n {
-        return false;
+        return Err(Fault::Misuse(p));
     }
     put_frame(words, top, m, n);
     words[counters::FRAME] = top as u64;
     words[counters::DECLARED] = m as u64;
     words[counters::ARGUMENTS] = (top + n) as u64;
-    true
+    Ok(())
 }

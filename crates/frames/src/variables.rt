@@ -2,11 +2,11 @@
 ghost use Rattle.std.specs.Prelude.{◌+◌, ◌≤◌, ◌≡◌, length, get_or};
 ghost use Rattle.machine.specs.Words.{unpacked};
 ghost use Rattle.machine.specs.Layout.{declared, frame, fixed_words, argument_place};
-ghost use Rattle.machine.specs.Act.{Answers, Does, Passes, Gives};
-ghost use Rattle.machine.specs.Variables.{is_dead, usable, with_word, with_order, number_of, holding_at, holding_of, holding, is_declared, variable, set_variable, set_order};
+ghost use Rattle.machine.specs.Act.{Does, Gives};
+ghost use Rattle.machine.specs.Variables.{is_dead, with_word, with_order, number_of, holding_at, holding_of, holding, is_declared, variable, set_variable, set_order};
 ghost use Rattle.machine.specs.Variables.{declare, declare_once};
 
-use machine::{Answer, Fault, counters, frame_words, kinds, layout};
+use machine::{Fault, Value, counters, frame_words, kinds, layout};
 use stores::{arguments, shapes};
 
 // Whether a word's value is a destroyed shape.
@@ -109,18 +109,18 @@ pub fn is_declared(words: &[u64], n: usize) -> bool
 }
 
 // What a variable holds: 50 if it is not declared, 30 if it holds a destroyed shape.
-pub fn variable(words: &[u64], p: u64, n: usize) -> Answer
+pub fn variable(words: &[u64], p: u64, n: usize) -> Result<Value, Fault>
     requires { fixed_words ≤ length words.now }
-    ensures { Answers words.now (variable p n) result words.now }
+    ensures { Does words.now (variable p n) result words.now }
 {
     let w = holding(words, n);
     if w == 0 {
-        return Answer::Bad(50, p);
+        return Err(Fault::Undeclared(p));
     }
     if is_dead(words, w) {
-        return Answer::Bad(30, p);
+        return Err(Fault::Destroyed(p));
     }
-    Answer::Good(values::unpack(w))
+    Ok(values::unpack(w))
 }
 
 // Puts a word into a variable.
@@ -141,19 +141,19 @@ fn set_order(words: &mut [u64], k: usize, n: usize)
     words[at] = with_order(words[at], n);
 }
 
-// Declares a variable; not if it is declared.
-pub fn declare(words: &mut [u64], n: usize) -> bool
+// Declares a variable; fails at a place if it is declared.
+pub fn declare(words: &mut [u64], n: usize, p: u64) -> Result<(), Fault>
     requires { fixed_words ≤ length words.old }
-    ensures { Passes words.old 60 (declare n) result words.new }
+    ensures { Does words.old (declare n p) result words.new }
 {
     if is_declared(words, n) {
-        return false;
+        return Err(Fault::DeclaredTwice(p));
     }
     set_variable(words, n, kinds::NOTHING);
     let k = declared_count(words);
     set_order(words, k, n);
     words[counters::DECLARED] = (k % layout::SLOTS + 1) as u64;
-    true
+    Ok(())
 }
 
 // Declares a variable, if it is not declared.
@@ -161,5 +161,5 @@ pub fn declare_once(words: &mut [u64], n: usize)
     requires { fixed_words ≤ length words.old }
     ensures { Gives words.old (declare_once n) tt words.new }
 {
-    declare(words, n);
+    let _ = declare(words, n, 0);
 }

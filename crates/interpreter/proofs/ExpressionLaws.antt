@@ -1,26 +1,27 @@
--- One law for each way through each function on expressions.
+-- How expressions go on, by what was asked so far.
 use Prim.Native.Nat.{ℕ, zero, suc, ◌+◌, ◌-◌, ◌≤◌, ◌<◌}
 use mathlib.Core.Path.{◌≡◌, refl, sym, ◌∙◌}
-use mathlib.Core.Bool.{Bool, true, false, not}
+use mathlib.Core.Bool.{Bool, true, false}
 use mathlib.Core.List.{List}
 use native.Mathlib.Omega.{arith}
 use lib.ListN.{get_or, length}
 use lib.Dec.{ltb}
-use borrow.Author.Tests.{lt-ltb, le-ltb, ltb-true, ltb-false, ne_eqb, not-true, not-false}
+use borrow.Author.Tests.{lt-ltb, le-ltb, ltb-true, ne_eqb}
+use Rattle.std.specs.Prelude.{Result, Ok, Err}
 use Rattle.meaning.specs.Basics.{if◌then◌otherwise◌}
 use Rattle.machine.specs.Opcodes.{tag_in, size_in, number_in, library_in, callee_in, argument_root, tag_table, tag_call}
 use Rattle.machine.specs.declared.Value.{Value}
-use Rattle.machine.specs.declared.Value.TheVariants.{Nothing}
-use Rattle.machine.specs.declared.Answer.{Answer}
-use Rattle.machine.specs.declared.Answer.TheVariants.{Good, Bad}
+use Rattle.machine.specs.declared.Fault.{Fault}
+use Rattle.machine.specs.declared.Fault.TheVariants.{Misuse}
 use Rattle.machine.specs.Words.{packed}
-use Rattle.machine.specs.Layout.{arguments_held, Room, Lent}
-use Rattle.machine.specs.Act.{raw, Out, done, Act, go_on, ◌>>=◌, give, fail, refuse, load, count, shown, Answers, Passes}
-use Rattle.machine.specs.Primaries.{leaf, sized, lacks_table, applied, push_word, called}
-use Rattle.machine.specs.Evaluate.{Evaluator, Setting, setting, argument_of, argument_after, arguments_from, invoked, call_at, second_of, first_of, operands_at, expression_by}
+use Rattle.machine.specs.Layout.{arguments_held, Lent}
+use Rattle.machine.specs.Act.{raw, done, go_on, ◌>>=◌, give, fail, refuse, load, count, out_of, Does, DoesIn}
+use Rattle.machine.specs.Primaries.{leaf, sized, lacks_table, applied, called}
+use Rattle.machine.specs.Evaluate.{Evaluator, Invoke, Setting, argument_of, argument_after, arguments_from, invoked, call_at, second_of, first_of, operands_at, expression_by}
 use Rattle.machine.specs.Interpret.{expression_at, invoke_at, body_at}
-use Rattle.stores.proofs.Acts.{after_pass, after_refusal}
-use Rattle.results.proofs.Acts.{goes_on, stops}
+use Rattle.machine.proofs.Acts.{fails_in}
+use Rattle.interpreter.specs.Cycle.{call_in}
+use Rattle.interpreter.proofs.Going.{after_in, as_in}
 
 -- what is lent stays as long
 pub still_lent : (g ts ws ts₁ ws₁ : List ℕ) → Lent g ts ws → length ts₁ ≡ length ts → length ws₁ ≡ length ws → Lent g ts₁ ws₁
@@ -32,99 +33,65 @@ pub still_lent_words : (g ts ws ws₁ : List ℕ) → Lent g ts ws → length ws
 still_lent_words g ts ws ws₁ h b = still_lent g ts ws ts ws₁ h refl b
 
 -- ---- operands
-module _ (inner : Evaluator) (e : Setting) (w x p : ℕ) (ts ws : List ℕ) (z : ℕ) (d : z ≡ x - 1 - number_in w) (a : Answer) (ts₁ ws₁ : List ℕ)
-    (h : shown a ts₁ ws₁ ≡ inner z p (raw ts ws)) where
-  pub first_stops : (n q : ℕ) → a ≡ Bad n q → shown (Bad n q) ts₁ ws₁ ≡ operands_at inner e w x p (raw ts ws)
-  unfolding operands_at ◌>>=◌ shown
-  first_stops n q f = sym (rw (← d) (stops _ h f))
+module _ (inner : Evaluator) (e : Setting) (w x p : ℕ) {ts ws : List ℕ} where
+  module _ {r : Result Value Fault} {ts' ws' : List ℕ} where
+    pub operands_by : {z : ℕ} → z ≡ x - 1 - number_in w → DoesIn ts ws (inner z p >>= λ v. first_of inner e w (packed v) x p) r ts' ws' → DoesIn ts ws (operands_at inner e w x p) r ts' ws'
+    unfolding operands_at
+    operands_by d h = rw d at h
 
-  module _ (u : Value) (f : a ≡ Good u) (k : ℕ) (m : k ≡ packed u) (tag : ℕ) (i : tag ≡ tag_in w) where
-    with_first : operands_at inner e w x p (raw ts ws) ≡ first_of inner e w k x p (raw ts₁ ws₁)
-    unfolding operands_at ◌>>=◌
-    with_first = rw (← d) (goes_on _ h f ∙ rw (← m))
+    module _ {tag k : ℕ} (u : Value) (i : tag ≡ tag_in w) (m : k ≡ packed u) where
+      pub second_by : (tag ≡ tag_table → ⊥) → {b : Bool} → b ≡ lacks_table tag k → b ≡ false → {y : ℕ} → y ≡ x - 1
+          → DoesIn ts ws (inner y p >>= λ v. applied e.program e.grants tag p k (packed v)) r ts' ws' → DoesIn ts ws (first_of inner e w (packed u) x p) r ts' ws'
+      unfolding first_of second_of if◌then◌otherwise◌ ◌>>=◌ go_on refuse give
+      second_by t o c d h = record { equal = h.equal ∙ rw (← m, ← i, ne_eqb _ _ t, ← o, c, d) }
 
-    pub table_made : (r : Answer) (ws₂ : List ℕ) → tag ≡ tag_table → Answers ws₁ (sized p k) r ws₂ → shown r ts₁ ws₂ ≡ operands_at inner e w x p (raw ts ws)
-    unfolding first_of if◌then◌otherwise◌
-    table_made r ws₂ t q = q.equal ts₁ ∙ sym (with_first ∙ rw (← i, t))
+  pub table_made : {tag k : ℕ} (u : Value) → tag ≡ tag_in w → k ≡ packed u → tag ≡ tag_table → {r : Result Value Fault} {ws' : List ℕ} → Does ws (sized p k) r ws'
+      → DoesIn ts ws (first_of inner e w (packed u) x p) r ts ws'
+  unfolding first_of if◌then◌otherwise◌
+  table_made u i m t h = record { equal = h.equal ts ∙ rw (m, ← i, t) }
 
-    module _ (t : tag ≡ tag_table → ⊥) (b : Bool) (o : b ≡ lacks_table tag k) where
-      pub no_table : b ≡ true → shown (Bad 20 p) ts₁ ws₁ ≡ operands_at inner e w x p (raw ts ws)
-      unfolding first_of if◌then◌otherwise◌ ◌>>=◌ go_on refuse fail shown
-      no_table q = sym (with_first ∙ rw (← i, ne_eqb _ _ t, ← o, q))
+  pub no_table : {tag k : ℕ} (u : Value) → tag ≡ tag_in w → k ≡ packed u → (tag ≡ tag_table → ⊥) → {b : Bool} → b ≡ lacks_table tag k → b ≡ true
+      → DoesIn ts ws (first_of inner e w (packed u) x p) (Err (Misuse p)) ts ws
+  unfolding first_of if◌then◌otherwise◌ ◌>>=◌ go_on refuse fail out_of
+  no_table u i m t o q = record { equal = rw (← m, ← i, ne_eqb _ _ t, ← o, q) }
 
-      module _ (c : b ≡ false) (y : ℕ) (g : y ≡ x - 1) (s : Answer) (ts₂ ws₂ : List ℕ) (l : shown s ts₂ ws₂ ≡ inner y p (raw ts₁ ws₁)) where
-        with_second : operands_at inner e w x p (raw ts ws) ≡ go_on (inner y p (raw ts₁ ws₁)) (λ v. applied e.program e.grants tag p k (packed v))
-        unfolding first_of second_of if◌then◌otherwise◌ ◌>>=◌ go_on refuse give
-        with_second = with_first ∙ rw (← i, ne_eqb _ _ t, ← o, c, g)
+-- ---- by the root's word
+module _ (inner : Evaluator) (invoke : Invoke) (e : Setting) (w x p : ℕ) {tag : ℕ} {ts ws ws' : List ℕ} {r : Result Value Fault} (i : tag ≡ tag_in w) where
+  pub is_leaf : tag < tag_table → Does ws (leaf p w) r ws' → DoesIn ts ws (expression_by inner invoke e w x p) r ts ws'
+  unfolding expression_by if◌then◌otherwise◌
+  is_leaf l h = record { equal = h.equal ts ∙ rw (← i, lt-ltb tag tag_table l) }
 
-        pub second_stops : (n q : ℕ) → s ≡ Bad n q → shown (Bad n q) ts₂ ws₂ ≡ operands_at inner e w x p (raw ts ws)
-        unfolding shown
-        second_stops n q j = sym (with_second ∙ stops _ l j)
+  pub is_call : {ts' : List ℕ} → tag ≡ tag_call → DoesIn ts ws (call_at inner invoke e w x p) r ts' ws' → DoesIn ts ws (expression_by inner invoke e w x p) r ts' ws'
+  unfolding expression_by if◌then◌otherwise◌
+  is_call k h = record { equal = h.equal ∙ rw (← i, k) }
 
-        pub operands_applied : (v : Value) (n : ℕ) (r : Out Value) → s ≡ Good v → n ≡ packed v → r ≡ applied e.program e.grants tag p k n (raw ts₂ ws₂)
-            → r ≡ operands_at inner e w x p (raw ts ws)
-        operands_applied v n r j q z = z ∙ sym (with_second ∙ goes_on _ l j ∙ rw q)
-
--- ---- an argument
-module _ (inner : Evaluator) (p : ℕ) (ts ws : List ℕ) (a : Answer) (ts₁ ws₁ : List ℕ) where
-  pub push_stops : (y n q : ℕ) → shown a ts₁ ws₁ ≡ inner y p (raw ts ws) → a ≡ Bad n q → shown (Bad n q) ts₁ ws₁ ≡ argument_of inner y p (raw ts ws)
-  unfolding argument_of ◌>>=◌ shown
-  push_stops y n q h f = sym (stops _ h f)
-
-  pub push_goes : (y k : ℕ) (v : Value) (r : Answer) (ws₂ : List ℕ) → shown a ts₁ ws₁ ≡ inner y p (raw ts ws) → a ≡ Good v → k ≡ packed v
-      → Answers ws₁ (push_word k p) r ws₂ → shown r ts₁ ws₂ ≡ argument_of inner y p (raw ts ws)
-  unfolding argument_of ◌>>=◌
-  push_goes y k v r ws₂ h f g q = q.equal ts₁ ∙ sym (goes_on _ h f ∙ rw g)
+  pub has_operands : {ts' : List ℕ} → tag_table ≤ tag → (tag ≡ tag_call → ⊥) → DoesIn ts ws (operands_at inner e w x p) r ts' ws' → DoesIn ts ws (expression_by inner invoke e w x p) r ts' ws'
+  unfolding expression_by if◌then◌otherwise◌
+  has_operands l k h = record { equal = h.equal ∙ rw (← i, le-ltb tag tag_table l, ne_eqb _ _ k) }
 
 -- ---- at a fuel
-module _ (program code g : List ℕ) (x p : ℕ) (ts ws : List ℕ) (fuel : ℕ) where
-  pub too_deep : fuel ≡ 0 → shown (Bad 20 p) ts ws ≡ expression_at fuel (setting program code g) x p (raw ts ws)
-  unfolding expression_at fail shown
-  too_deep z = rw z
+module _ (e : Setting) (x p : ℕ) {ts ws : List ℕ} (fuel : ℕ) where
+  pub too_deep : fuel ≡ 0 → DoesIn ts ws (expression_at fuel e x p) (Err (Misuse p)) ts ws
+  unfolding expression_at fail out_of
+  too_deep z = record { equal = rw z }
 
-  module _ (ok : Bool) (ws₁ : List ℕ) (n : fuel ≡ 0 → ⊥) (c : Passes ws 79 (count g) ok ws₁) where
-    deeper : fuel ≡ suc (fuel - 1)
-    deeper = omega (arith, n)
-
-    pub no_step : not ok ≡ true → shown (Bad 79 p) ts ws₁ ≡ expression_at fuel (setting program code g) x p (raw ts ws)
-    unfolding expression_at ◌>>=◌ shown
-    no_step t = sym (rw deeper (after_refusal _ p ts (rw (not-true ok t) at c)))
-
-    module _ (t : not ok ≡ false) (w : ℕ) (f : w ≡ get_or code x 0) (tag : ℕ) (i : tag ≡ tag_in w) where
-      begun : expression_at fuel (setting program code g) x p (raw ts ws)
-          ≡ expression_by (expression_at (fuel - 1) (setting program code g)) (invoke_at (fuel - 1) (setting program code g)) (setting program code g) w x p (raw ts ws₁)
-      unfolding expression_at body_at ◌>>=◌
-      begun = rw deeper (after_pass _ p ts (rw (not-false ok t) at c) ∙ rw (f, ← deeper))
-
-      pub is_leaf : (r : Answer) → tag < tag_table → Answers ws₁ (leaf p w) r ws₁ → shown r ts ws₁ ≡ expression_at fuel (setting program code g) x p (raw ts ws)
-      unfolding expression_by if◌then◌otherwise◌
-      is_leaf r l h = h.equal ts ∙ sym (begun ∙ rw (← i, lt-ltb tag tag_table l))
-
-      module _ (a b : Answer) (ts₂ ws₂ : List ℕ) (l : tag_table ≤ tag) where
-        pub is_call : tag ≡ tag_call
-            → shown a ts₂ ws₂ ≡ call_at (expression_at (fuel - 1) (setting program code g)) (invoke_at (fuel - 1) (setting program code g)) (setting program code g) w x p (raw ts ws₁)
-            → a ≡ b → shown b ts₂ ws₂ ≡ expression_at fuel (setting program code g) x p (raw ts ws)
-        unfolding expression_by if◌then◌otherwise◌
-        is_call k h e = (rw e at h) ∙ sym (begun ∙ rw (← i, k))
-
-        pub has_operands : (tag ≡ tag_call → ⊥)
-            → shown a ts₂ ws₂ ≡ operands_at (expression_at (fuel - 1) (setting program code g)) (setting program code g) w x p (raw ts ws₁)
-            → a ≡ b → shown b ts₂ ws₂ ≡ expression_at fuel (setting program code g) x p (raw ts ws)
-        unfolding expression_by if◌then◌otherwise◌
-        has_operands k h e = (rw e at h) ∙ sym (begun ∙ rw (← i, le-ltb tag tag_table l, ne_eqb _ _ k))
+  pub begun : (fuel ≡ 0 → ⊥) → {w : ℕ} → w ≡ get_or e.code x 0 → {r : Result Value Fault} {ts' ws' : List ℕ}
+      → DoesIn ts ws (count e.grants p >>= λ _. expression_by (expression_at (fuel - 1) e) (invoke_at (fuel - 1) e) e w x p) r ts' ws' → DoesIn ts ws (expression_at fuel e x p) r ts' ws'
+  unfolding expression_at body_at
+  begun n f h =
+      let deeper : fuel ≡ suc (fuel - 1) = omega (arith, n) in
+      record { equal = h.equal ∙ sym (rw deeper (rw (← f, ← deeper))) }
 
 -- ---- calls
 -- what is left to push from a root on comes to what was to be pushed at first
-pub record Pushing (program code g : List ℕ) (fuel : ℕ) (ts₀ ws₀ : List ℕ) (w x p base : ℕ) (ts ws : List ℕ) (y : ℕ) : Type 0 where
-  pub lent : Lent g ts ws
+pub record Pushing (e : Setting) (fuel : ℕ) (ts₀ ws₀ : List ℕ) (w x p base : ℕ) (ts ws : List ℕ) (y : ℕ) : Type 0 where
+  pub lent : Lent e.grants ts ws
   pub texts : length ts ≡ length ts₀
   pub words : length ws ≡ length ws₀
   pub rounds : ℕ
   pub enough : x < y + rounds
   pub within : y ≤ x
-  pub rest : call_at (expression_at fuel (setting program code g)) (invoke_at fuel (setting program code g)) (setting program code g) w x p (raw ts₀ ws₀)
-      ≡ go_on (arguments_from rounds (expression_at fuel (setting program code g)) (setting program code g) y x p (raw ts ws))
-      (λ _. invoked (invoke_at fuel (setting program code g)) (setting program code g) w p base)
+  pub rest : call_in fuel e w x p (raw ts₀ ws₀) ≡ (arguments_from rounds (expression_at fuel e) e y x p >>= λ _. invoked (invoke_at fuel e) e w p base) (raw ts ws)
 
 root_within : (w a x : ℕ) → argument_root w a x ≤ x
 unfolding argument_root if◌then◌otherwise◌
@@ -147,60 +114,58 @@ root_behind w a x m = go (ltb (a + size_in w) x) refl
 pub root_falls : (k x y z : ℕ) → y < x → z ≡ argument_root k (y + 1) x → x - z < x - y
 root_falls k x y z l e = let b : y + 1 ≤ z = rw e (root_behind k (y + 1) x (omega arith)) in omega arith
 
-module _ (program code g : List ℕ) (fuel : ℕ) (ts₀ ws₀ : List ℕ) (w x p base : ℕ) where
-  pub push_first : (a k s y : ℕ) → Lent g ts₀ ws₀ → base ≡ get_or ws₀ arguments_held 0 → a ≡ x - (size_in w - 1) → k ≡ get_or code a 0 → y ≡ argument_root k a x
-      → Pushing program code g fuel ts₀ ws₀ w x p base ts₀ ws₀ y
+module _ {e : Setting} {fuel : ℕ} {ts₀ ws₀ : List ℕ} {w x p base : ℕ} where
+  pub push_first : (a k y : ℕ) → Lent e.grants ts₀ ws₀ → base ≡ get_or ws₀ arguments_held 0 → a ≡ x - (size_in w - 1) → k ≡ get_or e.code a 0 → y ≡ argument_root k a x
+      → Pushing e fuel ts₀ ws₀ w x p base ts₀ ws₀ y
   unfolding call_at ◌>>=◌ go_on load
-  push_first a k s y l i b c d =
+  push_first a k y l i b c d =
       record { lent = l; texts = refl; words = refl; rounds = suc x; enough = omega arith; within = rw d (root_within k a x); rest = rw (← i, ← b, ← c, ← d) refl }
 
-  module _ (ts ws : List ℕ) (y : ℕ) (h : Pushing program code g fuel ts₀ ws₀ w x p base ts ws y) where
-    ends : (rounds : ℕ) → x ≤ y → arguments_from rounds (expression_at fuel (setting program code g)) (setting program code g) y x p (raw ts ws) ≡ done Nothing (raw ts ws)
+  module _ {ts ws : List ℕ} {y : ℕ} (h : Pushing e fuel ts₀ ws₀ w x p base ts ws y) where
+    ends : (rounds : ℕ) → x ≤ y → arguments_from rounds (expression_at fuel e) e y x p (raw ts ws) ≡ done tt (raw ts ws)
     unfolding arguments_from give if◌then◌otherwise◌
     ends zero l = refl
     ends (suc rounds) l = rw (le-ltb y x l)
 
-    module _ (l : x ≤ y) (n : ℕ) (e : n ≡ library_in w) where
-      ended : call_at (expression_at fuel (setting program code g)) (invoke_at fuel (setting program code g)) (setting program code g) w x p (raw ts₀ ws₀)
-          ≡ invoked (invoke_at fuel (setting program code g)) (setting program code g) w p base (raw ts ws)
-      unfolding go_on
+    module _ (l : x ≤ y) {n : ℕ} (d : n ≡ library_in w) where
+      ended : call_in fuel e w x p (raw ts₀ ws₀) ≡ invoked (invoke_at fuel e) e w p base (raw ts ws)
+      unfolding ◌>>=◌ go_on
       ended = h.rest ∙ rw (ends h.rounds l)
 
-      pub library_called : (r : Answer) (ws₁ : List ℕ) → (n ≡ 11 → ⊥) → Answers ws (called g n p base) r ws₁
-          → shown r ts ws₁ ≡ call_at (expression_at fuel (setting program code g)) (invoke_at fuel (setting program code g)) (setting program code g) w x p (raw ts₀ ws₀)
+      pub library_called : {r : Result Value Fault} {ws₁ : List ℕ} → (n ≡ 11 → ⊥) → Does ws (called e.grants n p base) r ws₁ → DoesIn ts₀ ws₀ (call_in fuel e w x p) r ts ws₁
       unfolding invoked if◌then◌otherwise◌
-      library_called r ws₁ o q = q.equal ts ∙ sym (ended ∙ rw (← e, ne_eqb _ _ o))
+      library_called o q = record { equal = q.equal ts ∙ sym (ended ∙ rw (← d, ne_eqb _ _ o)) }
 
-      pub procedure_called : (callee : ℕ) (o : Out Value) → n ≡ 11 → callee ≡ callee_in w → o ≡ invoke_at fuel (setting program code g) callee p base (raw ts ws)
-          → o ≡ call_at (expression_at fuel (setting program code g)) (invoke_at fuel (setting program code g)) (setting program code g) w x p (raw ts₀ ws₀)
+      pub procedure_called : {callee : ℕ} {r : Result Value Fault} {ts₁ ws₁ : List ℕ} → n ≡ 11 → callee ≡ callee_in w → DoesIn ts ws (invoke_at fuel e callee p base) r ts₁ ws₁ → DoesIn ts₀ ws₀ (call_in fuel e w x p) r ts₁ ws₁
       unfolding invoked if◌then◌otherwise◌
-      procedure_called callee o k i q = q ∙ sym (ended ∙ rw (← e, k, i))
+      procedure_called k i q = record { equal = q.equal ∙ sym (ended ∙ rw (← d, k, i)) }
 
-    module _ (l : y < x) (r : Answer) (ts₁ ws₁ : List ℕ) (c : shown r ts₁ ws₁ ≡ argument_of (expression_at fuel (setting program code g)) y p (raw ts ws)) where
-      again : (rounds : ℕ) → x < y + rounds
-          → arguments_from rounds (expression_at fuel (setting program code g)) (setting program code g) y x p (raw ts ws)
-          ≡ go_on (shown r ts₁ ws₁) (λ _. arguments_from (rounds - 1) (expression_at fuel (setting program code g)) (setting program code g) (argument_after (setting program code g) (y + 1) x) x p)
-      unfolding arguments_from if◌then◌otherwise◌ ◌>>=◌
-      again zero b = absurd (omega arith)
-      again (suc rounds) b =
-          let k : suc rounds - 1 ≡ rounds = omega arith in
-          rw (lt-ltb y x l, c, k)
+    module _ (l : y < x) where
+      again : arguments_from h.rounds (expression_at fuel e) e y x p (raw ts ws)
+          ≡ (argument_of (expression_at fuel e) y p >>= λ _. arguments_from (h.rounds - 1) (expression_at fuel e) e (argument_after e (y + 1) x) x p) (raw ts ws)
+      unfolding arguments_from if◌then◌otherwise◌
+      again = go h.rounds h.enough
+        where
+          go : (rounds : ℕ) → x < y + rounds → arguments_from rounds (expression_at fuel e) e y x p (raw ts ws)
+              ≡ (argument_of (expression_at fuel e) y p >>= λ _. arguments_from (rounds - 1) (expression_at fuel e) e (argument_after e (y + 1) x) x p) (raw ts ws)
+          go zero b = absurd (omega arith)
+          go (suc rounds) b =
+              let k : suc rounds - 1 ≡ rounds = omega arith in
+              rw (lt-ltb y x l, k) refl
 
-      pub push_fails : (n q : ℕ) → r ≡ Bad n q → shown (Bad n q) ts₁ ws₁
-          ≡ call_at (expression_at fuel (setting program code g)) (invoke_at fuel (setting program code g)) (setting program code g) w x p (raw ts₀ ws₀)
-      unfolding go_on shown
-      push_fails n q f = sym (h.rest ∙ rw (again h.rounds h.enough, f))
+      pub push_fails : {ts₁ ws₁ : List ℕ} {f : Fault} → DoesIn ts ws (argument_of (expression_at fuel e) y p) (Err f) ts₁ ws₁ → DoesIn ts₀ ws₀ (call_in fuel e w x p) (Err f) ts₁ ws₁
+      push_fails c = as_in h.rest (fails_in _ (as_in again (fails_in _ c)))
 
-      pub push_next : (v : Value) (k z : ℕ) → length ts₁ ≡ length ts → length ws₁ ≡ length ws → r ≡ Good v → k ≡ get_or code (y + 1) 0 → z ≡ argument_root k (y + 1) x
-          → Pushing program code g fuel ts₀ ws₀ w x p base ts₁ ws₁ z
-      unfolding go_on shown
-      push_next v k z i j f m n =
+      pub push_next : {ts₁ ws₁ : List ℕ} (u : Unit {0}) (k z : ℕ) → length ts₁ ≡ length ts → length ws₁ ≡ length ws → DoesIn ts ws (argument_of (expression_at fuel e) y p) (Ok u) ts₁ ws₁
+          → k ≡ get_or e.code (y + 1) 0 → z ≡ argument_root k (y + 1) x → Pushing e fuel ts₀ ws₀ w x p base ts₁ ws₁ z
+      unfolding ◌>>=◌
+      push_next {ts₁ = ts₁} {ws₁ = ws₁} u k z i j c m n =
           record {
-            lent = still_lent g ts ws ts₁ ws₁ h.lent i j;
+            lent = still_lent e.grants ts ws ts₁ ws₁ h.lent i j;
             texts = i ∙ h.texts;
             words = j ∙ h.words;
             rounds = h.rounds - 1;
             enough = let b : y + 1 ≤ z = rw n (root_behind k (y + 1) x (omega arith)) in omega (arith, h.enough);
             within = rw n (root_within k (y + 1) x);
-            rest = h.rest ∙ rw (again h.rounds h.enough, f, n, m);
+            rest = h.rest ∙ rw (again, after_in (λ _. arguments_from (h.rounds - 1) (expression_at fuel e) e (argument_after e (y + 1) x) x p) c, n, m) refl;
           }

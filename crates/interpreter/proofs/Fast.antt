@@ -16,15 +16,14 @@ use Rattle.meaning.specs.Integer.{sum, difference, product, quotient, remainder,
 use Rattle.arithmetic.proofs.Ranges.{bits_signed, signed_small, sum_small, difference_small, product_small, quotient_small, remainder_small, shifted_left_small, shifted_right_small}
 use Rattle.machine.specs.Opcodes.{tag_in, size_in, size_at, number_in, tag_number, tag_string, tag_name, tag_table, tag_entry, tag_call, first_operator, head_number, head_string, head_name}
 use Rattle.machine.specs.Opcodes.{tag_add, tag_subtract, tag_multiply, tag_divide, tag_remainder, tag_shift_right, tag_shift_left, tag_equal, tag_unequal, tag_greater, tag_less}
-use Rattle.machine.specs.declared.Value.{Value}
 use Rattle.machine.specs.declared.Value.TheVariants.{Integer, Text, Boolean, Shape}
-use Rattle.machine.specs.declared.Answer.{Answer}
-use Rattle.machine.specs.declared.Answer.TheVariants.{Good, Bad}
+use Rattle.std.specs.Prelude.{Result, Ok}
+use Rattle.machine.specs.declared.Fault.{Fault}
 use Rattle.machine.specs.Words.{kind_in, packed, unpacked}
 use Rattle.machine.specs.Words as Words
 use Rattle.values.proofs.Laws.{InRange, unpacked_packed, unpacked_integer, unpacked_truth, unpacked_shape}
 use Rattle.machine.specs.Layout.{frame, fixed_words, shape_place, Lent, steps_used, steps_granted}
-use Rattle.machine.specs.Act.{Raw, raw, Out, done, go_on, ◌>>=◌, give, refuse, spend, shown, Answers}
+use Rattle.machine.specs.Act.{Raw, raw, done, go_on, ◌>>=◌, give, refuse, spend, out_of, Does, DoesIn}
 use Rattle.machine.specs.Shapes.{destroyed_at}
 use Rattle.machine.specs.Variables.{is_dead, usable, word_in, holding}
 use Rattle.frames.proofs.VariableLaws.{not_dead, dead_shape, found}
@@ -33,8 +32,9 @@ use Rattle.values.proofs.Held.{by_number}
 use Rattle.fastpath.specs.Fast.{plain_word, leaf_word, operator_word, word_on, sizes_agree, operation_word, fast_at, living_word, other_word, argument_at, applies, Values}
 use Rattle.machine.specs.Evaluate.{Evaluator, Invoke, Setting, setting, argument_of, second_of, first_of, operands_at, expression_by}
 use Rattle.machine.specs.Interpret.{expression_at, invoke_at, body_at}
-use Rattle.machine.specs.Primaries.{leaf, applied, push_word}
-use Rattle.interpreter.proofs.ExpressionLaws as laws
+use Rattle.machine.specs.Primaries.{leaf, applied}
+use Rattle.machine.specs.Stack.{push}
+use Rattle.machine.proofs.Acts.{goes_in, in_both}
 
 -- ---- words of integers and truths
 -- a word that packing its value gives again, and that is no shape
@@ -264,7 +264,7 @@ module _ (program code g ts rest : List ℕ) (u p : ℕ) where
   module _ (w v k : ℕ) (h : w % 2 ^ 32 ≡ head_name) (f : k ≡ holding (u ∷ rest) (number_in w)) (z : k ≡ 0 → ⊥) (q : unpacked v ≡ unpacked k) where
     name_gives : ((m : ℕ) → false ≡ is_dead (m ∷ rest) (unpacked k)) → (inner : Evaluator) (invoke : Invoke) (x n : ℕ)
         → expression_by inner invoke e w x p (raw ts (n ∷ rest)) ≡ done (unpacked v) (raw ts (n ∷ rest))
-    unfolding expression_by leaf if◌then◌otherwise◌ shown
+    unfolding expression_by leaf if◌then◌otherwise◌ out_of
     name_gives dead inner invoke x m =
         let t : tag_in w ≡ tag_name = tag_below w tag_name (omega arith) h in
         let d : holding (m ∷ rest) (number_in w) ≡ k = ap word_in (elsewhere rest m u ((get_or (u ∷ rest) frame 0 + number_in w) % 262144)) ∙ sym f in
@@ -476,11 +476,11 @@ module _ (fuel : ℕ) (code g ws : List ℕ) (x v : ℕ) (ws₁ : List ℕ) (h :
   plain = fast_plain code ws fuel x v (omega arith) (as_applied g ws v ws₁ h n).fast n
 
   -- the evaluator gives the word's value, and leaves the words so
-  pub evaluates : (program ts : List ℕ) (p : ℕ) → shown (Good (unpacked v)) ts ws₁ ≡ expression_at fuel (setting program code g) x p (raw ts ws)
-  unfolding shown
+  pub evaluates : (program ts : List ℕ) (p : ℕ) → DoesIn ts ws (expression_at fuel (setting program code g) x p) (Ok (unpacked v)) ts ws₁
+  unfolding out_of
   evaluates program ts p =
       let q = as_applied g ws v ws₁ h n in
-      sym (rw q.words (fast_found program code g ts ws p fuel x v (omega arith) q.fast n q.within))
+      record { equal = sym (rw q.words (fast_found program code g ts ws p fuel x v (omega arith) q.fast n q.within)) }
 
 -- an argument by argument_value
 argument_found : (program code g ts ws : List ℕ) (p fuel x v : ℕ) → 0 < length ws → argument_at fuel code ws x ≡ v → (v ≡ 0 → ⊥) → get_or ws steps_used 0 + size_in (get_or code x 0) ≤ steps_granted g
@@ -493,16 +493,17 @@ argument_back code [] fuel x v l h n = absurd (omega arith)
 argument_back code (u ∷ rest) fuel x v l h n = (hands [] code [] [] rest u 0 fuel x v h n).back
 
 module _ (program code g : List ℕ) (fuel p : ℕ) (ts ws : List ℕ) (y w : ℕ) (ws₁ : List ℕ) (h : Values (argument_at fuel code ws y) (size_at code y) g ws w ws₁) where
-  pub push_fast : (r : Answer) (ws₂ : List ℕ) → Lent g ts ws → (w ≡ 0 → ⊥) → Answers ws₁ (push_word w p) r ws₂
-      → shown r ts ws₂ ≡ argument_of (expression_at fuel (setting program code g)) y p (raw ts ws)
-  unfolding shown
+  pub push_fast : (r : Result (Unit {0}) Fault) (ws₂ : List ℕ) → Lent g ts ws → (w ≡ 0 → ⊥) → Does ws₁ (push w p) r ws₂
+      → DoesIn ts ws (argument_of (expression_at fuel (setting program code g)) y p) r ts ws₂
+  unfolding argument_of out_of
   push_fast r ws₂ v n q =
       let some : 0 < length ws = omega (arith, v.room.words) in
       let a = as_applied g ws w ws₁ h n in
-      laws.push_goes (expression_at fuel (setting program code g)) p ts ws (Good (unpacked w)) ts ws₁ y w (unpacked w) r ws₂
-      (sym (rw a.words (argument_found program code g ts ws p fuel y w some a.fast n a.within))) refl (sym (argument_back code ws fuel y w some a.fast n)) q
+      let d : DoesIn ts ws (expression_at fuel (setting program code g) y p) (Ok (unpacked w)) ts ws₁
+      = record { equal = sym (rw a.words (argument_found program code g ts ws p fuel y w some a.fast n a.within)) } in
+      goes_in _ d (rw (argument_back code ws fuel y w some a.fast n) (in_both q ts))
 
   -- where it does not apply, the argument is evaluated
-  pub push_slow : (o : Out Value) → w ≡ 0 → o ≡ argument_of (expression_at fuel (setting program code g)) y p (raw ts ws₁)
-      → o ≡ argument_of (expression_at fuel (setting program code g)) y p (raw ts ws)
-  push_slow o z c = rw (unchanged g ws w ws₁ h z) at c
+  pub push_slow : (r : Result (Unit {0}) Fault) (ts₂ ws₂ : List ℕ) → w ≡ 0 → DoesIn ts ws₁ (argument_of (expression_at fuel (setting program code g)) y p) r ts₂ ws₂
+      → DoesIn ts ws (argument_of (expression_at fuel (setting program code g)) y p) r ts₂ ws₂
+  push_slow r ts₂ ws₂ z c = rw (unchanged g ws w ws₁ h z) at c

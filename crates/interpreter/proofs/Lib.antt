@@ -1,5 +1,6 @@
-pub mod ExpressionLaws
-pub mod Fast
-pub mod StatementLaws
-pub mod CallLaws
-pub mod LoopLaws
+mod Going
+mod ExpressionLaws
+mod CallLaws
+mod Fast
+mod StatementLaws
+mod LoopLaws

@@ -1,45 +1,41 @@
--- One law for each way through each function on statements, and through a call.
-use Prim.Native.Nat.{ℕ, suc, ◌+◌, ◌-◌, ◌^◌, ◌≤◌, ◌<◌}
+-- How statements go on, by what was asked so far.
+use Prim.Native.Nat.{ℕ, suc, ◌+◌, ◌-◌, ◌≤◌, ◌<◌}
 use mathlib.Core.Path.{◌≡◌, refl, sym, ◌∙◌}
-use mathlib.Core.Bool.{Bool, true, false, not}
-use mathlib.Core.List.{List, [], ◌∷◌}
-use mathlib.Core.Logic.{⊎_elim}
+use mathlib.Core.List.{List}
 use native.Mathlib.Omega.{arith}
 use lib.ListN.{get_or, length, take, drop}
 use borrow.Author.Rules.{part_to_end}
-use denote.Enum.Declared.{tag_of}
-use borrow.Author.Tests.{lt-ltb, le-ltb, ne_eqb, not-true, not-false}
+use borrow.Author.Tests.{lt-ltb, le-ltb, ne_eqb}
+use Rattle.std.specs.Prelude.{Bool, true, Result, Ok, Err}
 use Rattle.meaning.specs.Basics.{if◌then◌otherwise◌}
-use Rattle.machine.specs.contracts.Value as value
 use Rattle.machine.specs.Opcodes.{tag_in, size_in, place_in, extra_in, tag_declare, tag_update, tag_when, tag_while, tag_foreach, tag_return, tag_block}
 use Rattle.machine.specs.declared.Value.{Value}
 use Rattle.machine.specs.declared.Value.TheVariants.{Integer, Text, Boolean, Nothing, Table, Shape}
-use Rattle.machine.specs.declared.Answer.{Answer}
-use Rattle.machine.specs.declared.Answer.TheVariants.{Good, Bad}
+use Rattle.machine.specs.declared.Fault.{Fault}
+use Rattle.machine.specs.declared.Fault.TheVariants.{Misuse, NoStepLeft, Numbered}
+use Rattle.machine.specs.declared.Flow.{Flow}
+use Rattle.machine.specs.declared.Flow.TheVariants.{Onward, Returned}
 use Rattle.machine.specs.Words.{kind_in, kind_shape, packed, unpacked}
 use Rattle.machine.specs.Layout.{fixed_words, steps_granted, Room}
-use Rattle.machine.specs.Layout as Layout
-use Rattle.machine.specs.Act.{Raw, raw, Out, stop, Act, go_on, ◌>>=◌, give, fail, count, shown, passed, Passes}
+use Rattle.machine.specs.Act.{raw, Act, ◌>>=◌, give, fail, count, passed, out_of, Does, DoesIn}
 use Rattle.machine.specs.Tables.{store_entry}
 use Rattle.tables.specs.Asked.{Stores}
 use Rattle.machine.specs.Operate.{with_table}
 use Rattle.fastpath.specs.Fast.{Values}
 use Rattle.machine.specs.Evaluate.{Evaluator, Setting, setting}
-use Rattle.machine.specs.declared.Flow.{Flow}
-use Rattle.machine.specs.declared.Flow.TheVariants.{Onward, Returned, Stopped}
-use Rattle.machine.specs.declared.Outcome.{Outcome}
-use Rattle.machine.specs.declared.Outcome.TheVariants as outcome
-use Rattle.machine.specs.Effects.{shown_flow, shown_test, Flows, declaring, finishing, outcome_in, saying}
+use Rattle.machine.specs.Effects.{declaring, finishing, saying}
 use Rattle.machine.specs.Execute.{Executor, simple_at, update_value, update_in, update_at, test_of, continue, when_at, turning, looping, repeat_at, foreach_at, statements_from, counted_at, statement_by}
-use Rattle.machine.specs.Interpret.{expression_at, statement_at, body_at, invoke_at}
-use Rattle.stores.proofs.Acts.{after_pass, after_refusal}
-use Rattle.results.proofs.Acts.{goes_on, stops}
-use Rattle.effects.proofs.Acts.{flow_on, flow_returns, flow_stops, test_holds, test_fails, test_stops}
+use Rattle.machine.specs.Procedures.{result_of}
+use Rattle.machine.specs.Interpret.{expression_at, statement_at, body_at}
+use Rattle.stores.proofs.Turns.{from_none}
+use Rattle.std.specs.Result.{IsErrAnd}
+use Rattle.machine.proofs.Acts.{passed_on, goes_in, fails_in, in_both, sure, given, failed}
+use Rattle.interpreter.proofs.Going.{after_in, as_in, regrouped}
 use Rattle.interpreter.proofs.ExpressionLaws as laws
 use Rattle.interpreter.proofs.Fast.{Fast, plain, evaluates, unchanged}
 use Rattle.effects.proofs.Laws.{is_return}
-use Rattle.interpreter.specs.Asked.{Lent, Runs, Leaves, Body}
-use Rattle.interpreter.specs.Ended.{given, answer_of, Ended}
+use Rattle.interpreter.specs.Asked.{Lent, Runs, Leaves}
+use Rattle.interpreter.specs.Cycle.{repeat_in, statements_in, procedure_in, returned}
 
 -- ---- what is lent stays as long
 module _ (g ts ws ts₁ ws₁ : List ℕ) (i : length ts₁ ≡ length ts) (j : length ws₁ ≡ length ws) where
@@ -66,380 +62,266 @@ lent_anew s = take (length s - 0) (drop 0 s)
 pub worked_anew : (fuel : ℕ) (code g ws : List ℕ) (y k : ℕ) (ws₁ : List ℕ) → Fast fuel (lent_anew code) g ws y k ws₁ → Fast fuel code g ws y k ws₁
 worked_anew fuel code g ws y k ws₁ h = rw (part_to_end code 0) at h
 
-pub evaluated_anew : (program code g : List ℕ) (fuel y p : ℕ) (r : Raw) (o : Out Value)
-    → o ≡ expression_at fuel (setting program (lent_anew code) g) y p r → o ≡ expression_at fuel (setting program code g) y p r
-evaluated_anew program code g fuel y p r o h = rw (part_to_end code 0) at h
+pub evaluated_anew : (program code g : List ℕ) (fuel y p : ℕ) {r : Result Value Fault} {ts ws ts₁ ws₁ : List ℕ}
+    → DoesIn ts ws (expression_at fuel (setting program (lent_anew code) g) y p) r ts₁ ws₁ → DoesIn ts ws (expression_at fuel (setting program code g) y p) r ts₁ ws₁
+evaluated_anew program code g fuel y p h = rw (part_to_end code 0) at h
 
 -- ---- worked out at once
 pub no_shape_lem : (code g ts ws : List ℕ) (fuel y k : ℕ) (ws₁ : List ℕ) → Fast fuel code g ws y k ws₁ → Lent g ts ws fuel → (k ≡ 0 → ⊥) → kind_in k ≡ kind_shape → ⊥
 no_shape_lem code g ts ws fuel y k ws₁ h l n = (plain fuel code g ws y k ws₁ h (omega (arith, l.lent.room.words)) n).no_shape_lem
 
-module _ (program code g : List ℕ) (p : ℕ) (ts ws : List ℕ) (fuel y k : ℕ) (ws₁ : List ℕ) (h : Fast fuel code g ws y k ws₁) where
-  module _ (l : Lent g ts ws fuel) (n : k ≡ 0 → ⊥) where
-    long : fixed_words ≤ length ws
-    long = omega (arith, l.lent.room.words)
+module _ (e : Setting) (p : ℕ) {ts ws : List ℕ} (fuel y : ℕ) {k : ℕ} {ws₁ : List ℕ} (h : Fast fuel e.code e.grants ws y k ws₁) where
+  module _ (l : Lent e.grants ts ws fuel) (n : k ≡ 0 → ⊥) {ws₂ : List ℕ} where
+    at_once : {B : Type 0} {r : Result B Fault} (f : ℕ → Act B) → Does ws₁ (f k) r ws₂ → DoesIn ts ws (expression_at fuel e y p >>= λ v. f (packed v)) r ts ws₂
+    at_once f d =
+        let long : fixed_words ≤ length ws = omega (arith, l.lent.room.words) in
+        goes_in _ (evaluates fuel e.code e.grants ws y k ws₁ h long n e.program ts p) (rw (plain fuel e.code e.grants ws y k ws₁ h long n).back (in_both d ts))
 
-    at_once : {B : Type 0} (f : Value → Act B) → go_on (expression_at fuel (setting program code g) y p (raw ts ws)) f ≡ f (unpacked k) (raw ts ws₁)
-    at_once f = goes_on f (evaluates fuel code g ws y k ws₁ h long n program ts p) refl
+    pub simple_fast : (w x : ℕ) {r : Result Flow Fault} → y ≡ x + size_in w - 1 → Does ws₁ (finishing e.grants w k p) r ws₂ → DoesIn ts ws (simple_at (expression_at fuel e) e w x p) r ts ws₂
+    unfolding simple_at
+    simple_fast w x d q = rw (← d) (at_once (λ m. finishing e.grants w m p) q)
 
-    pub simple_fast : (w x : ℕ) (r : Flow) (ws₂ : List ℕ) → y ≡ x + size_in w - 1 → Flows ws₁ (finishing g w k p) r ws₂
-        → shown_flow r ts ws₂ ≡ simple_at (expression_at fuel (setting program code g)) (setting program code g) w x p (raw ts ws)
-    unfolding simple_at ◌>>=◌
-    simple_fast w x r ws₂ e q = q.equal ts ∙ sym (rw (← e) (at_once _ ∙ rw (plain fuel code g ws y k ws₁ h long n).back))
+    pub test_fast : {r : Result Bool Fault} → Does ws₁ (saying k p) r ws₂ → DoesIn ts ws (test_of (expression_at fuel e) e y p) r ts ws₂
+    unfolding test_of
+    test_fast q = at_once (λ m. saying m p) q
 
-    pub test_fast : (t : Outcome) → t ≡ outcome_in k p → shown_test t ts ws₁ ≡ test_of (expression_at fuel (setting program code g)) (setting program code g) y p (raw ts ws)
-    unfolding test_of saying ◌>>=◌
-    test_fast t q = sym (at_once _ ∙ rw ((plain fuel code g ws y k ws₁ h long n).back, q))
+  -- where that does not apply, the words are as they were
+  pub evaluated : k ≡ 0 → {r : Result Value Fault} {ts₁ ws₂ : List ℕ} → DoesIn ts ws₁ (expression_at fuel e y p) r ts₁ ws₂ → DoesIn ts ws (expression_at fuel e y p) r ts₁ ws₂
+  evaluated z d = rw (unchanged e.grants ws k ws₁ h z) at d
 
--- ---- a statement of one expression, and a test, where that does not apply
-module _ (program code g : List ℕ) (p : ℕ) (ts ws : List ℕ) (fuel y i : ℕ) (ws₀ : List ℕ) (c : Fast fuel code g ws y i ws₀) (z : i ≡ 0) (a : Answer) (ts₁ ws₁ : List ℕ)
-    (h : shown a ts₁ ws₁ ≡ expression_at fuel (setting program code g) y p (raw ts ws₀)) where
-  there : shown a ts₁ ws₁ ≡ expression_at fuel (setting program code g) y p (raw ts ws)
-  there = rw (unchanged g ws i ws₀ c z) at h
+-- ---- statements that hold no others
+module _ (eval : Evaluator) (e : Setting) (p : ℕ) {r : Result Flow Fault} {ts ws ts₁ ws₁ : List ℕ} where
+  pub simple_by : (w x : ℕ) {y : ℕ} → y ≡ x + size_in w - 1 → DoesIn ts ws (eval y p >>= λ v. finishing e.grants w (packed v) p) r ts₁ ws₁ → DoesIn ts ws (simple_at eval e w x p) r ts₁ ws₁
+  unfolding simple_at
+  simple_by w x d h = rw d at h
 
-  pub simple_done : (w x k : ℕ) (v : Value) (r s : Flow) (ws₂ : List ℕ) → y ≡ x + size_in w - 1 → a ≡ Good v → k ≡ packed v → Flows ws₁ (finishing g w k p) r ws₂ → r ≡ s
-      → shown_flow s ts₁ ws₂ ≡ simple_at (expression_at fuel (setting program code g)) (setting program code g) w x p (raw ts ws)
-  unfolding simple_at ◌>>=◌
-  simple_done w x k v r s ws₂ e f m q b = ((rw b at q).equal ts₁) ∙ sym (rw (← e) (goes_on _ there f ∙ rw m))
+  pub update_by : (y : ℕ) {wy b wb a : ℕ} → wy ≡ get_or e.code y 0 → b ≡ y - size_in wy → wb ≡ get_or e.code b 0 → a ≡ b - size_in wb
+      → DoesIn ts ws (eval a p >>= λ v. with_table p v λ t. update_in eval e t y p) r ts₁ ws₁ → DoesIn ts ws (update_at eval e y p) r ts₁ ws₁
+  unfolding update_at
+  update_by y {b = b} {a = a} d₁ d₂ d₃ d₄ h =
+      let k : b ≡ y - size_in (get_or e.code y 0) = d₂ ∙ rw d₁ in
+      let t : a ≡ b - size_in (get_or e.code b 0) = d₄ ∙ rw d₃ in
+      rw (← k, ← t) h
 
-  pub simple_stops : (w x n q : ℕ) → y ≡ x + size_in w - 1 → a ≡ Bad n q
-      → shown_flow (Stopped n q) ts₁ ws₁ ≡ simple_at (expression_at fuel (setting program code g)) (setting program code g) w x p (raw ts ws)
-  unfolding simple_at ◌>>=◌ shown_flow
-  simple_stops w x n q e f = sym (rw (← e) (stops _ there f))
+  pub key_by : (t y : ℕ) {wy b : ℕ} → wy ≡ get_or e.code y 0 → b ≡ y - size_in wy → DoesIn ts ws (eval b p >>= λ k. update_value eval e t (packed k) y p) r ts₁ ws₁
+      → DoesIn ts ws (with_table p (Table t) λ n. update_in eval e n y p) r ts₁ ws₁
+  unfolding with_table update_in
+  key_by t y {b = b} d₁ d₂ h =
+      let k : b ≡ y - size_in (get_or e.code y 0) = d₂ ∙ rw d₁ in
+      rw (← k) h
 
-  pub test_says : (k : ℕ) (v : Value) (t : Outcome) → a ≡ Good v → k ≡ packed v → t ≡ outcome_in k p
-      → shown_test t ts₁ ws₁ ≡ test_of (expression_at fuel (setting program code g)) (setting program code g) y p (raw ts ws)
-  unfolding test_of saying ◌>>=◌
-  test_says k v t f m q = sym (goes_on _ there f ∙ rw (← m, q))
+  pub value_by : (t y : ℕ) {key : ℕ} (u : Value) → key ≡ packed u → DoesIn ts ws (eval y p >>= λ v. store_entry e.program e.grants t key (packed v) p >>= λ _. give Onward) r ts₁ ws₁
+      → DoesIn ts ws (update_value eval e t (packed u) y p) r ts₁ ws₁
+  unfolding update_value
+  value_by t y u m h = rw m at h
 
-  pub test_refused : (n q : ℕ) → a ≡ Bad n q → shown_test (outcome.Stopped n q) ts₁ ws₁ ≡ test_of (expression_at fuel (setting program code g)) (setting program code g) y p (raw ts ws)
-  unfolding test_of ◌>>=◌ shown_test
-  test_refused n q f = sym (stops _ there f)
+module _ {program g ts ws : List ℕ} {t key k number : ℕ} {ws₁ : List ℕ} (s : Stores program g ts ws t key k number ws₁) (p : ℕ) where
+  pub entry_refused : (number ≡ 0 → ⊥) → DoesIn ts ws (store_entry program g t key k p) (Err (Numbered number p)) ts ws₁
+  unfolding passed out_of
+  entry_refused n = record { equal = rw (← s.equal p, ne_eqb _ _ n) }
 
--- ---- an update
-not_table : {A : Type 0} (p : ℕ) (r : Raw) (v : Value) (k : ℕ → Act A) → ((n : ℕ) → v ≡ Table n → ⊥) → with_table p v k r ≡ stop 20 p r
-unfolding with_table fail
-not_table p r (Table t) k o = absurd (o t refl)
-not_table p r (Integer z) k o = refl
-not_table p r (Text h) k o = refl
-not_table p r (Boolean b) k o = refl
-not_table p r Nothing k o = refl
-not_table p r (Shape i) k o = refl
+  pub entry_stored : number ≡ 0 → DoesIn ts ws (store_entry program g t key k p) (Ok tt) ts ws₁
+  unfolding passed out_of
+  entry_stored n = record { equal = rw (← s.equal p, n) }
 
-module _ (program code g : List ℕ) (p : ℕ) (ts ws : List ℕ) (fuel y wy b wb a : ℕ) (d₁ : wy ≡ get_or code y 0) (d₂ : b ≡ y - size_in wy) (d₃ : wb ≡ get_or code b 0) (d₄ : a ≡ b - size_in wb)
-    (r₁ : Answer) (ts₁ ws₁ : List ℕ) (h₁ : shown r₁ ts₁ ws₁ ≡ expression_at fuel (setting program code g) a p (raw ts ws)) where
-  key_is : b ≡ y - size_in (get_or code y 0)
-  key_is = d₂ ∙ rw d₁
+pub not_table : {A : Type 0} (p : ℕ) {ts ws : List ℕ} (v : Value) (k : ℕ → Act A) → ((n : ℕ) → v ≡ Table n → ⊥) → DoesIn ts ws (with_table p v k) (Err (Misuse p)) ts ws
+unfolding with_table fail out_of
+not_table p (Table t) k o = absurd (o t refl)
+not_table p (Integer z) k o = record { equal = refl }
+not_table p (Text h) k o = record { equal = refl }
+not_table p (Boolean b) k o = record { equal = refl }
+not_table p Nothing k o = record { equal = refl }
+not_table p (Shape i) k o = record { equal = refl }
 
-  table_is : a ≡ b - size_in (get_or code b 0)
-  table_is = d₄ ∙ rw d₃
+-- ---- by the statement's word
+module _ (eval : Evaluator) (inner : Executor) (e : Setting) (w x p : ℕ) {tag : ℕ} {ts ws ws₁ : List ℕ} {r : Result Flow Fault} (i : tag ≡ tag_in w) where
+  pub is_loop : {k : ℕ} {ts₁ : List ℕ} → tag ≡ tag_while → k ≡ extra_in w → DoesIn ts ws (repeat_at eval inner e (x + k) p) r ts₁ ws₁ → DoesIn ts ws (statement_by eval inner e w x p) r ts₁ ws₁
+  unfolding statement_by if◌then◌otherwise◌
+  is_loop t d h = record { equal = h.equal ∙ rw (← i, t, d) }
 
-  pub table_stops : (n q : ℕ) → r₁ ≡ Bad n q → shown_flow (Stopped n q) ts₁ ws₁ ≡ update_at (expression_at fuel (setting program code g)) (setting program code g) y p (raw ts ws)
-  unfolding update_at ◌>>=◌ shown_flow
-  table_stops n q f = sym (rw (← key_is, ← table_is) (stops _ h₁ f))
+  pub counted : {ts₁ : List ℕ} → (tag ≡ tag_while → ⊥) → DoesIn ts ws (count e.grants p >>= λ _. counted_at eval inner e w x p) r ts₁ ws₁ → DoesIn ts ws (statement_by eval inner e w x p) r ts₁ ws₁
+  unfolding statement_by if◌then◌otherwise◌
+  counted m h = record { equal = h.equal ∙ rw (← i, ne_eqb _ _ m) }
 
-  pub table_other : (v : Value) → r₁ ≡ Good v → ((n : ℕ) → v ≡ Table n → ⊥)
-      → shown_flow (Stopped 20 p) ts₁ ws₁ ≡ update_at (expression_at fuel (setting program code g)) (setting program code g) y p (raw ts ws)
-  unfolding update_at ◌>>=◌ shown_flow
-  table_other v f o = sym (rw (← key_is, ← table_is) (goes_on _ h₁ f ∙ not_table p (raw ts₁ ws₁) v _ o))
+  pub is_declaration : {k : ℕ} → tag ≡ tag_declare → k ≡ extra_in w → Does ws (declaring k p) r ws₁ → DoesIn ts ws (counted_at eval inner e w x p) r ts ws₁
+  unfolding counted_at if◌then◌otherwise◌
+  is_declaration q d h = record { equal = h.equal ts ∙ rw (← i, q, d) }
 
-  module _ (v₁ : Value) (t : ℕ) (f₁ : r₁ ≡ Good v₁) (e₁ : v₁ ≡ Table t) (r₂ : Answer) (ts₂ ws₂ : List ℕ) (h₂ : shown r₂ ts₂ ws₂ ≡ expression_at fuel (setting program code g) b p (raw ts₁ ws₁)) where
-    with_table_lem : update_at (expression_at fuel (setting program code g)) (setting program code g) y p (raw ts ws)
-        ≡ go_on (expression_at fuel (setting program code g) b p (raw ts₁ ws₁)) (λ k. update_value (expression_at fuel (setting program code g)) (setting program code g) t (packed k) y p)
-    unfolding update_at update_in ◌>>=◌ with_table
-    with_table_lem = rw (← key_is, ← table_is) (goes_on _ h₁ f₁ ∙ rw e₁)
+  pub is_update : {y : ℕ} {ts₁ : List ℕ} → tag ≡ tag_update → y ≡ x + size_in w - 1 → DoesIn ts ws (update_at eval e y p) r ts₁ ws₁ → DoesIn ts ws (counted_at eval inner e w x p) r ts₁ ws₁
+  unfolding counted_at if◌then◌otherwise◌
+  is_update q d h = record { equal = h.equal ∙ rw (← i, q, d) }
 
-    pub key_stops : (n q : ℕ) → r₂ ≡ Bad n q → shown_flow (Stopped n q) ts₂ ws₂ ≡ update_at (expression_at fuel (setting program code g)) (setting program code g) y p (raw ts ws)
-    unfolding shown_flow
-    key_stops n q f = sym (with_table_lem ∙ stops _ h₂ f)
+  pub is_when : {k : ℕ} {ts₁ : List ℕ} → tag ≡ tag_when → k ≡ extra_in w → DoesIn ts ws (when_at eval inner e (x + k) p) r ts₁ ws₁ → DoesIn ts ws (counted_at eval inner e w x p) r ts₁ ws₁
+  unfolding counted_at if◌then◌otherwise◌
+  is_when q d h = record { equal = h.equal ∙ rw (← i, q, d) }
 
-    module _ (v₂ : Value) (key : ℕ) (f₂ : r₂ ≡ Good v₂) (e₂ : key ≡ packed v₂) (r₃ : Answer) (ts₃ ws₃ : List ℕ) (h₃ : shown r₃ ts₃ ws₃
-        ≡ expression_at fuel (setting program code g) y p (raw ts₂ ws₂)) where
-      with_key : update_at (expression_at fuel (setting program code g)) (setting program code g) y p (raw ts ws)
-          ≡ go_on (expression_at fuel (setting program code g) y p (raw ts₂ ws₂)) (λ u. store_entry program g t key (packed u) p >>= λ _. give Onward)
-      unfolding update_value ◌>>=◌
-      with_key = with_table_lem ∙ goes_on _ h₂ f₂ ∙ rw e₂
+  pub is_foreach : {k slot : ℕ} {ts₁ : List ℕ} → tag ≡ tag_foreach → k ≡ extra_in w → slot ≡ get_or e.code (x + 1) 0 → DoesIn ts ws (foreach_at eval inner e slot (x + k) p) r ts₁ ws₁
+      → DoesIn ts ws (counted_at eval inner e w x p) r ts₁ ws₁
+  unfolding counted_at if◌then◌otherwise◌
+  is_foreach q d s h = record { equal = h.equal ∙ rw (← i, q, d, s) }
 
-      pub value_stops : (n q : ℕ) → r₃ ≡ Bad n q → shown_flow (Stopped n q) ts₃ ws₃ ≡ update_at (expression_at fuel (setting program code g)) (setting program code g) y p (raw ts ws)
-      unfolding shown_flow
-      value_stops n q f = sym (with_key ∙ stops _ h₃ f)
+  pub is_block : {k : ℕ} {ts₁ : List ℕ} → tag ≡ tag_block → k ≡ size_in w → DoesIn ts ws (statements_from (k + 1) inner e (x + 1) (x + k)) r ts₁ ws₁ → DoesIn ts ws (counted_at eval inner e w x p) r ts₁ ws₁
+  unfolding counted_at if◌then◌otherwise◌
+  is_block q d h = record { equal = h.equal ∙ rw (← i, q, d) }
 
-      module _ (v₃ : Value) (k : ℕ) (f₃ : r₃ ≡ Good v₃) (e₃ : k ≡ packed v₃) (number : ℕ) (ws₄ : List ℕ) (d : Stores program g ts₃ ws₃ t key k number ws₄) where
-        pub update_refused : (number ≡ 0 → ⊥) → shown_flow (Stopped number p) ts₃ ws₄ ≡ update_at (expression_at fuel (setting program code g)) (setting program code g) y p (raw ts ws)
-        unfolding ◌>>=◌ go_on passed shown_flow
-        update_refused c = sym (with_key ∙ goes_on _ h₃ f₃ ∙ rw (← e₃, ← d.equal p, ne_eqb _ _ c))
-
-        pub update_done : number ≡ 0 → shown_flow Onward ts₃ ws₄ ≡ update_at (expression_at fuel (setting program code g)) (setting program code g) y p (raw ts ws)
-        unfolding ◌>>=◌ go_on passed give shown_flow
-        update_done c = sym (with_key ∙ goes_on _ h₃ f₃ ∙ rw (← e₃, ← d.equal p, c))
+  pub is_simple : {ts₁ : List ℕ} → (tag ≡ tag_declare → ⊥) → (tag ≡ tag_update → ⊥) → (tag ≡ tag_when → ⊥) → (tag ≡ tag_foreach → ⊥) → (tag ≡ tag_block → ⊥)
+      → DoesIn ts ws (simple_at eval e w x p) r ts₁ ws₁ → DoesIn ts ws (counted_at eval inner e w x p) r ts₁ ws₁
+  unfolding counted_at if◌then◌otherwise◌
+  is_simple a b c d f h = record { equal = h.equal ∙ rw (← i, ne_eqb _ _ a, ne_eqb _ _ b, ne_eqb _ _ c, ne_eqb _ _ d, ne_eqb _ _ f) }
 
 -- ---- at a fuel
-module _ (program code g : List ℕ) (x : ℕ) (ts ws : List ℕ) (fuel : ℕ) where
-  pub statement_too_deep : fuel ≡ 0 → shown_flow (Stopped 20 0) ts ws ≡ statement_at fuel (setting program code g) x (raw ts ws)
-  unfolding statement_at fail shown_flow
-  statement_too_deep z = rw z
+module _ (e : Setting) (x : ℕ) {ts ws : List ℕ} (fuel : ℕ) where
+  pub statement_too_deep : fuel ≡ 0 → DoesIn ts ws (statement_at fuel e x) (Err (Misuse 0)) ts ws
+  unfolding statement_at fail out_of
+  statement_too_deep z = record { equal = rw z }
 
-  module _ (n : fuel ≡ 0 → ⊥) (w : ℕ) (f : w ≡ get_or code x 0) (p : ℕ) (j : p ≡ place_in w) (tag : ℕ) (i : tag ≡ tag_in w) where
-    deeper : fuel ≡ suc (fuel - 1)
-    deeper = omega (arith, n)
+  pub statement_begun : (fuel ≡ 0 → ⊥) → {w p : ℕ} → w ≡ get_or e.code x 0 → p ≡ place_in w → {r : Result Flow Fault} {ts₁ ws₁ : List ℕ}
+      → DoesIn ts ws (statement_by (expression_at (fuel - 1) e) (statement_at (fuel - 1) e) e w x p) r ts₁ ws₁
+      → DoesIn ts ws (statement_at fuel e x) r ts₁ ws₁
+  unfolding statement_at
+  statement_begun n f j h =
+      let deeper : fuel ≡ suc (fuel - 1) = omega (arith, n) in
+      record { equal = h.equal ∙ sym (rw deeper (rw (← deeper, ← f, ← j))) }
 
-    begun : statement_at fuel (setting program code g) x (raw ts ws) ≡ statement_by (expression_at (fuel - 1) (setting program code g)) (statement_at (fuel - 1) (setting program code g))
-        (setting program code g) w x p (raw ts ws)
-    unfolding statement_at
-    begun = rw deeper (rw (← deeper, ← f, ← j))
-
-    pub is_loop : (k : ℕ) (o : Out Flow) → tag ≡ tag_while → k ≡ extra_in w
-        → o ≡ repeat_at (expression_at (fuel - 1) (setting program code g)) (statement_at (fuel - 1) (setting program code g)) (setting program code g) (x + k) p (raw ts ws)
-        → o ≡ statement_at fuel (setting program code g) x (raw ts ws)
-    unfolding statement_by if◌then◌otherwise◌
-    is_loop k o t e h = h ∙ sym (begun ∙ rw (← i, t, e))
-
-    module _ (m : tag ≡ tag_while → ⊥) (ok : Bool) (ws₁ : List ℕ) (c : Passes ws 79 (count g) ok ws₁) where
-      pub statement_no_step : not ok ≡ true → shown_flow (Stopped 79 p) ts ws₁ ≡ statement_at fuel (setting program code g) x (raw ts ws)
-      unfolding statement_by if◌then◌otherwise◌ ◌>>=◌ shown_flow
-      statement_no_step t = sym (begun ∙ rw (← i, ne_eqb _ _ m) (after_refusal _ p ts (rw (not-true ok t) at c)))
-
-      module _ (t : not ok ≡ false) where
-        stepped : statement_at fuel (setting program code g) x (raw ts ws)
-            ≡ counted_at (expression_at (fuel - 1) (setting program code g)) (statement_at (fuel - 1) (setting program code g)) (setting program code g) w x p (raw ts ws₁)
-        unfolding statement_by if◌then◌otherwise◌ ◌>>=◌
-        stepped = begun ∙ rw (← i, ne_eqb _ _ m) (after_pass _ p ts (rw (not-false ok t) at c))
-
-        pub is_declaration : (k : ℕ) (r : Flow) (ws₂ : List ℕ) → tag ≡ tag_declare → k ≡ extra_in w → Flows ws₁ (declaring k p) r ws₂
-            → shown_flow r ts ws₂ ≡ statement_at fuel (setting program code g) x (raw ts ws)
-        unfolding counted_at if◌then◌otherwise◌
-        is_declaration k r ws₂ q e h = h.equal ts ∙ sym (stepped ∙ rw (← i, q, e))
-
-        pub is_update : (y : ℕ) (o : Out Flow) → tag ≡ tag_update → y ≡ x + size_in w - 1 → o ≡ update_at (expression_at (fuel - 1) (setting program code g)) (setting program code g) y p (raw ts ws₁)
-            → o ≡ statement_at fuel (setting program code g) x (raw ts ws)
-        unfolding counted_at if◌then◌otherwise◌
-        is_update y o q e h = h ∙ sym (stepped ∙ rw (← i, q, e))
-
-        pub is_when : (k : ℕ) (o : Out Flow) → tag ≡ tag_when → k ≡ extra_in w
-            → o ≡ when_at (expression_at (fuel - 1) (setting program code g)) (statement_at (fuel - 1) (setting program code g)) (setting program code g) (x + k) p (raw ts ws₁)
-            → o ≡ statement_at fuel (setting program code g) x (raw ts ws)
-        unfolding counted_at if◌then◌otherwise◌
-        is_when k o q e h = h ∙ sym (stepped ∙ rw (← i, q, e))
-
-        pub is_foreach : (k slot : ℕ) (o : Out Flow) → tag ≡ tag_foreach → k ≡ extra_in w → slot ≡ get_or code (x + 1) 0
-            → o ≡ foreach_at (expression_at (fuel - 1) (setting program code g)) (statement_at (fuel - 1) (setting program code g)) (setting program code g) slot (x + k) p (raw ts ws₁)
-            → o ≡ statement_at fuel (setting program code g) x (raw ts ws)
-        unfolding counted_at if◌then◌otherwise◌
-        is_foreach k slot o q e f h = h ∙ sym (stepped ∙ rw (← i, q, e, f))
-
-        pub is_block : (k : ℕ) (o : Out Flow) → tag ≡ tag_block → k ≡ size_in w
-            → o ≡ statements_from (k + 1) (statement_at (fuel - 1) (setting program code g)) (setting program code g) (x + 1) (x + k) (raw ts ws₁)
-            → o ≡ statement_at fuel (setting program code g) x (raw ts ws)
-        unfolding counted_at if◌then◌otherwise◌
-        is_block k o q e h = h ∙ sym (stepped ∙ rw (← i, q, e))
-
-        pub is_simple : (o : Out Flow) → (tag ≡ tag_declare → ⊥) → (tag ≡ tag_update → ⊥) → (tag ≡ tag_when → ⊥) → (tag ≡ tag_foreach → ⊥) → (tag ≡ tag_block → ⊥)
-            → o ≡ simple_at (expression_at (fuel - 1) (setting program code g)) (setting program code g) w x p (raw ts ws₁) → o ≡ statement_at fuel (setting program code g) x (raw ts ws)
-        unfolding counted_at if◌then◌otherwise◌
-        is_simple o a b d e f h = h ∙ sym (stepped ∙ rw (← i, ne_eqb _ _ a, ne_eqb _ _ b, ne_eqb _ _ d, ne_eqb _ _ e, ne_eqb _ _ f))
-
--- ---- a return
-module _ (program code g : List ℕ) (x : ℕ) (ts ws : List ℕ) (fuel w : ℕ) (s : Leaves code g ts ws fuel w x) where
-  pub leave_too_deep : fuel ≡ 0 → shown_flow (given (Bad 20 0)) ts ws ≡ statement_at fuel (setting program code g) x (raw ts ws)
-  unfolding given
-  leave_too_deep z = statement_too_deep program code g x ts ws fuel z
-
+-- a return
+module _ (e : Setting) {x : ℕ} {ts ws : List ℕ} {fuel w : ℕ} (s : Leaves e.code e.grants ts ws fuel w x) where
   no_other : (t : ℕ) → (t ≡ tag_return → ⊥) → tag_in w ≡ t → ⊥
   no_other t o e = o (sym e ∙ s.tagged)
 
-  module _ (n : fuel ≡ 0 → ⊥) (p : ℕ) (j : p ≡ place_in w) (ok : Bool) (ws₁ : List ℕ) (c : Passes ws 79 (count g) ok ws₁) where
-    pub leave_no_step : not ok ≡ true → shown_flow (given (Bad 79 p)) ts ws₁ ≡ statement_at fuel (setting program code g) x (raw ts ws)
-    unfolding given
-    leave_no_step t = statement_no_step program code g x ts ws fuel n w s.word p j (tag_in w) refl (no_other tag_while (λ e. omega (arith, e))) ok ws₁ c t
+  pub leave_by : (fuel ≡ 0 → ⊥) → {p : ℕ} → p ≡ place_in w → {r : Result Flow Fault} {ts₁ ws₁ : List ℕ}
+      → DoesIn ts ws (count e.grants p >>= λ _. simple_at (expression_at (fuel - 1) e) e w x p) r ts₁ ws₁
+      → DoesIn ts ws (statement_at fuel e x) r ts₁ ws₁
+  unfolding counted_at if◌then◌otherwise◌
+  leave_by n {p = p} j h = statement_begun e x fuel n s.word j (counted _ _ e w x p refl (no_other tag_while (λ e. omega (arith, e))) (rw (
+    ne_eqb _ _ (no_other tag_declare (λ e. omega (arith, e))),
+    ne_eqb _ _ (no_other tag_update (λ e. omega (arith, e))),
+    ne_eqb _ _ (no_other tag_when (λ e. omega (arith, e))),
+    ne_eqb _ _ (no_other tag_foreach (λ e. omega (arith, e))),
+    ne_eqb _ _ (no_other tag_block (λ e. omega (arith, e))),
+  ) h))
 
-    module _ (t : not ok ≡ false) (y k : ℕ) (e : y ≡ x + size_in w - 1) (ws₂ : List ℕ) (h : Fast (fuel - 1) code g ws₁ y k ws₂) where
-      simply : (o : Out Flow) → o ≡ simple_at (expression_at (fuel - 1) (setting program code g)) (setting program code g) w x p (raw ts ws₁)
-          → o ≡ statement_at fuel (setting program code g) x (raw ts ws)
-      simply o q = is_simple program code g x ts ws fuel n w s.word p j (tag_in w) refl (no_other tag_while (λ e. omega (arith, e))) ok ws₁ c t o (no_other tag_declare (λ e. omega (arith, e)))
-          (no_other tag_update (λ e. omega (arith, e))) (no_other tag_when (λ e. omega (arith, e))) (no_other tag_foreach (λ e. omega (arith, e))) (no_other tag_block (λ e. omega (arith, e))) q
+  pub leave_fails : {f : Fault} (a : Result Value Fault) {ts₁ ws₁ : List ℕ} → DoesIn ts ws (statement_at fuel e x) (Err f) ts₁ ws₁ → IsErrAnd a (λ y. y ≡ f)
+      → DoesIn ts ws (statement_at fuel e x) (returned a) ts₁ ws₁
+  unfolding returned
+  leave_fails a h i = rw (passed_on a i) h
 
-      pub leave_fast : (v : Value) → length ws₁ ≡ length ws → (k ≡ 0 → ⊥) → v ≡ unpacked k → shown_flow (given (Good v)) ts ws₂ ≡ statement_at fuel (setting program code g) x (raw ts ws)
-      unfolding given
-      leave_fast v i m f =
-          simply _ (simple_fast program code g p ts ws₁ (fuel - 1) y k ws₂ h (still_lent g ts ws ts ws₁ refl i (fuel - 1) (deeper_lent g ts ws fuel s.runs.lent)) m w x (Returned v) ws₂ e
-          (is_return ws₂ g w k p (tag_in w) refl v s.tagged f))
+pub leave_gives : {code g ts ws : List ℕ} {fuel w x : ℕ} → Leaves code g ts ws fuel w x → (k p : ℕ) {ws₁ : List ℕ} {v : Value} → v ≡ unpacked k → Does ws₁ (finishing g w k p) (Ok (Returned v)) ws₁
+leave_gives {g = g} {w = w} s k p {ws₁} {v} d = sure (is_return ws₁ g w k p (tag_in w) refl v s.tagged d)
 
-      module _ (z : k ≡ 0) (a : Answer) (ts₃ ws₃ : List ℕ) (d : shown a ts₃ ws₃ ≡ expression_at (fuel - 1) (setting program code g) y p (raw ts ws₂)) where
-        pub leave_done : (u v : Value) (m : ℕ) → a ≡ Good u → m ≡ packed u → v ≡ unpacked m → shown_flow (given (Good v)) ts₃ ws₃ ≡ statement_at fuel (setting program code g) x (raw ts ws)
-        unfolding given
-        leave_done u v m f r q =
-            simply _ (simple_done program code g p ts ws₁ (fuel - 1) y k ws₂ h z a ts₃ ws₃ d w x m u (Returned v) (Returned v) ws₃ e f r (is_return ws₃ g w m p (tag_in w) refl v s.tagged q) refl)
-
-        pub leave_stops : (m q : ℕ) → a ≡ Bad m q → shown_flow (given (Bad m q)) ts₃ ws₃ ≡ statement_at fuel (setting program code g) x (raw ts ws)
-        unfolding given
-        leave_stops m q f = simply _ (simple_stops program code g p ts ws₁ (fuel - 1) y k ws₂ h z a ts₃ ws₃ d w x m q e f)
-
--- ---- a statement if a test holds
-module _ (eval : Evaluator) (inner : Executor) (e : Setting) (y p : ℕ) (ts ws : List ℕ) (t : Outcome) (ts₁ ws₁ : List ℕ) (h : shown_test t ts₁ ws₁ ≡ test_of eval e y p (raw ts ws)) where
-  pub when_holds : (r s : Flow) (ts₂ ws₂ : List ℕ) → t ≡ outcome.Yes → shown_flow r ts₂ ws₂ ≡ inner (y + 1) (raw ts₁ ws₁) → r ≡ s → shown_flow s ts₂ ws₂ ≡ when_at eval inner e y p (raw ts ws)
-  unfolding when_at ◌>>=◌ if◌then◌otherwise◌
-  when_holds r s ts₂ ws₂ f q b = rw (← b) q ∙ sym (test_holds _ h f)
-
-  pub when_not : t ≡ outcome.No → shown_flow Onward ts₁ ws₁ ≡ when_at eval inner e y p (raw ts ws)
-  unfolding when_at ◌>>=◌ if◌then◌otherwise◌ give shown_flow
-  when_not f = sym (test_fails _ h f)
-
-  pub when_stops : (n q : ℕ) → t ≡ outcome.Stopped n q → shown_flow (Stopped n q) ts₁ ws₁ ≡ when_at eval inner e y p (raw ts ws)
-  unfolding when_at ◌>>=◌ shown_flow
-  when_stops n q f = sym (test_stops _ h f)
+-- what ends without a value goes on
+pub goes_onward : (f : Flow) → ((v : Value) → f ≡ Returned v → ⊥) → f ≡ Onward
+goes_onward Onward o = refl
+goes_onward (Returned v) o = absurd (o v refl)
 
 -- ---- a loop
--- what is left of it with so many turns comes to the whole
-pub record Looping (program code g : List ℕ) (fuel : ℕ) (ts₀ ws₀ : List ℕ) (y p : ℕ) (ts ws : List ℕ) (turns : ℕ) : Type 0 where
-  pub runs : Runs g ts ws fuel (y + 1)
+-- what is left of it after i turns comes to the whole
+pub record Looping (e : Setting) (fuel : ℕ) (ts₀ ws₀ : List ℕ) (y p : ℕ) (ts ws : List ℕ) (turns i : ℕ) : Type 0 where
+  pub runs : Runs e.grants ts ws fuel (y + 1)
   pub texts : length ts ≡ length ts₀
   pub words : length ws ≡ length ws₀
-  pub rest : repeat_at (expression_at fuel (setting program code g)) (statement_at fuel (setting program code g)) (setting program code g) y p (raw ts₀ ws₀)
-      ≡ looping turns (expression_at fuel (setting program code g)) (setting program code g) y p (statement_at fuel (setting program code g) (y + 1)) (raw ts ws)
+  pub rest : repeat_in fuel e y p (raw ts₀ ws₀)
+      ≡ looping (turns - i) (expression_at fuel e) e y p (statement_at fuel e (y + 1)) (raw ts ws)
 
-module _ (program code g : List ℕ) (fuel : ℕ) (ts₀ ws₀ : List ℕ) (y p : ℕ) where
-  abbrev whole : Out Flow
-  whole = repeat_at (expression_at fuel (setting program code g)) (statement_at fuel (setting program code g)) (setting program code g) y p (raw ts₀ ws₀)
-
-  pub loop_first : Runs g ts₀ ws₀ fuel (y + 1) → Looping program code g fuel ts₀ ws₀ y p ts₀ ws₀ (steps_granted g + 1)
+module _ {e : Setting} {fuel : ℕ} {ts₀ ws₀ : List ℕ} {y p : ℕ} where
+  pub loop_first : Runs e.grants ts₀ ws₀ fuel (y + 1) → Looping e fuel ts₀ ws₀ y p ts₀ ws₀ (steps_granted e.grants + 1) 0
   unfolding repeat_at
-  loop_first s = record { runs = s; texts = refl; words = refl; rest = refl }
+  loop_first s = record { runs = s; texts = refl; words = refl; rest = rw (from_none (steps_granted e.grants + 1)) refl }
 
-  module _ (ts ws : List ℕ) (turns : ℕ) (l : Looping program code g fuel ts₀ ws₀ y p ts ws turns) where
-    pub loop_short : turns ≡ 0 → shown_flow (Stopped 79 p) ts ws ≡ whole
-    unfolding looping fail shown_flow
-    loop_short z = sym (l.rest ∙ rw z)
+  module _ {ts ws : List ℕ} {turns i : ℕ} (l : Looping e fuel ts₀ ws₀ y p ts ws turns i) where
+    pub loop_short : turns ≤ i → DoesIn ts₀ ws₀ (repeat_in fuel e y p) (Err (NoStepLeft p)) ts ws
+    unfolding looping
+    loop_short z =
+        let d : turns - i ≡ 0 = omega arith in
+        let q : repeat_in fuel e y p (raw ts₀ ws₀) ≡ fail {A = Flow} 79 p (raw ts ws) = l.rest ∙ rw d refl in
+        as_in q (in_both (failed (NoStepLeft p)) ts)
 
-    module _ (m : 0 < turns) (ok : Bool) (wsₛ : List ℕ) (c : Passes ws 79 (count g) ok wsₛ) where
-      turn_by : whole ≡ go_on (turning (expression_at fuel (setting program code g)) (setting program code g) y p (raw ts ws))
-          (λ b. if b then (λ _. statement_at fuel (setting program code g) (y + 1)
-          >>= λ f. continue f (looping (turns - 1) (expression_at fuel (setting program code g)) (setting program code g) y p (statement_at fuel (setting program code g) (y + 1)))) otherwise
-          λ _. give Onward)
-      unfolding looping ◌>>=◌
-      turn_by =
-          let d : turns ≡ suc (turns - 1) = omega arith in
-          l.rest ∙ rw d (rw (← d))
+    module _ (m : i < turns) where
+      pub turn_is : repeat_in fuel e y p (raw ts₀ ws₀) ≡ (count e.grants p >>= λ _. test_of (expression_at fuel e) e y p
+          >>= λ b. if b then (λ _. statement_at fuel e (y + 1) >>= λ f. continue f (looping (turns - (i + 1)) (expression_at fuel e) e y p (statement_at fuel e (y + 1)))) otherwise λ _. give Onward) (raw ts ws)
+      unfolding looping turning
+      turn_is =
+          let d : turns - i ≡ suc (turns - (i + 1)) = omega arith in
+          l.rest ∙ rw d (regrouped (count e.grants p) (λ _. test_of (expression_at fuel e) e y p) _ (raw ts ws))
 
-      pub loop_refused : not ok ≡ true → shown_flow (Stopped 79 p) ts wsₛ ≡ whole
-      unfolding turning ◌>>=◌ go_on shown_flow
-      loop_refused t = sym (turn_by ∙ rw (after_refusal (λ _. test_of (expression_at fuel (setting program code g)) (setting program code g) y p) p ts (rw (not-true ok t) at c)))
-
-      module _ (u : not ok ≡ false) (t : Outcome) (ts₁ ws₁ : List ℕ) (h : shown_test t ts₁ ws₁ ≡ test_of (expression_at fuel (setting program code g)) (setting program code g) y p (raw ts wsₛ)) where
-        tested : shown_test t ts₁ ws₁ ≡ turning (expression_at fuel (setting program code g)) (setting program code g) y p (raw ts ws)
-        unfolding turning ◌>>=◌
-        tested = h ∙ sym (after_pass _ p ts (rw (not-false ok u) at c))
-
-        pub loop_stops : (n q : ℕ) → t ≡ outcome.Stopped n q → shown_flow (Stopped n q) ts₁ ws₁ ≡ whole
-        unfolding shown_flow
-        loop_stops n q f = sym (turn_by ∙ test_stops _ tested f)
-
-        pub loop_ends : t ≡ outcome.No → shown_flow Onward ts₁ ws₁ ≡ whole
-        unfolding if◌then◌otherwise◌ give shown_flow
-        loop_ends f = sym (turn_by ∙ test_fails _ tested f)
-
-        module _ (f : t ≡ outcome.Yes) (r : Flow) (ts₂ ws₂ : List ℕ) (q : shown_flow r ts₂ ws₂ ≡ statement_at fuel (setting program code g) (y + 1) (raw ts₁ ws₁)) where
-          into : whole ≡ go_on (statement_at fuel (setting program code g) (y + 1) (raw ts₁ ws₁))
-              (λ a. continue a (looping (turns - 1) (expression_at fuel (setting program code g)) (setting program code g) y p (statement_at fuel (setting program code g) (y + 1))))
-          unfolding if◌then◌otherwise◌ ◌>>=◌
-          into = turn_by ∙ test_holds _ tested f
-
-          pub loop_fails : (n z : ℕ) → r ≡ Stopped n z → shown_flow (Stopped n z) ts₂ ws₂ ≡ whole
-          unfolding shown_flow
-          loop_fails n z b = sym (into ∙ flow_stops _ q b)
-
-          pub loop_returns : (v : Value) → r ≡ Returned v → shown_flow (Returned v) ts₂ ws₂ ≡ whole
-          unfolding continue give shown_flow
-          loop_returns v b = sym (into ∙ flow_returns _ q b)
-
-          pub loop_again : length ts₂ ≡ length ts → length ws₂ ≡ length ws → r ≡ Onward → Looping program code g fuel ts₀ ws₀ y p ts₂ ws₂ (turns - 1)
-          unfolding continue
-          loop_again j k b = record { runs = still_runs g ts ws ts₂ ws₂ j k fuel (y + 1) l.runs; texts = j ∙ l.texts; words = k ∙ l.words; rest = into ∙ flow_on _ q b }
+      pub loop_again : {u : Unit {0}} {ws₁ : List ℕ} → Does ws (count e.grants p) (Ok u) ws₁ → {b : Bool} {ts₂ ws₂ : List ℕ} → DoesIn ts ws₁ (test_of (expression_at fuel e) e y p) (Ok b) ts₂ ws₂ → b ≡ true
+          → {ts₃ ws₃ : List ℕ} → DoesIn ts₂ ws₂ (statement_at fuel e (y + 1)) (Ok Onward) ts₃ ws₃ → length ts₃ ≡ length ts → length ws₃ ≡ length ws
+          → Looping e fuel ts₀ ws₀ y p ts₃ ws₃ turns (i + 1)
+      unfolding if◌then◌otherwise◌ continue
+      loop_again h t b {ts₃} {ws₃} q j k = record {
+        runs = still_runs e.grants ts ws ts₃ ws₃ j k fuel (y + 1) l.runs;
+        texts = j ∙ l.texts;
+        words = k ∙ l.words;
+        rest = turn_is ∙ after_in _ (in_both h ts) ∙ after_in _ t ∙ rw b (after_in _ q);
+      }
 
 -- ---- one statement after the other
-pub record Following (program code g : List ℕ) (fuel : ℕ) (ts₀ ws₀ : List ℕ) (a end rounds : ℕ) (ts ws : List ℕ) (at left : ℕ) : Type 0 where
-  pub runs : Runs g ts ws fuel end
+pub record Following (e : Setting) (fuel : ℕ) (ts₀ ws₀ : List ℕ) (a end rounds : ℕ) (ts ws : List ℕ) (at i : ℕ) : Type 0 where
+  pub runs : Runs e.grants ts ws fuel end
   pub texts : length ts ≡ length ts₀
   pub words : length ws ≡ length ws₀
-  pub rest : statements_from rounds (statement_at fuel (setting program code g)) (setting program code g) a end (raw ts₀ ws₀)
-      ≡ statements_from left (statement_at fuel (setting program code g)) (setting program code g) at end (raw ts ws)
+  pub rest : statements_in fuel e rounds a end (raw ts₀ ws₀)
+      ≡ statements_from (rounds - i) (statement_at fuel e) e at end (raw ts ws)
 
-module _ (program code g : List ℕ) (fuel : ℕ) (ts₀ ws₀ : List ℕ) (a end rounds : ℕ) where
-  abbrev all : Out Flow
-  all = statements_from rounds (statement_at fuel (setting program code g)) (setting program code g) a end (raw ts₀ ws₀)
+module _ {e : Setting} {fuel : ℕ} {ts₀ ws₀ : List ℕ} {a end rounds : ℕ} where
+  pub all_first : Runs e.grants ts₀ ws₀ fuel end → Following e fuel ts₀ ws₀ a end rounds ts₀ ws₀ a 0
+  all_first s = record { runs = s; texts = refl; words = refl; rest = rw (from_none rounds) refl }
 
-  pub all_first : Runs g ts₀ ws₀ fuel end → Following program code g fuel ts₀ ws₀ a end rounds ts₀ ws₀ a rounds
-  all_first s = record { runs = s; texts = refl; words = refl; rest = refl }
-
-  module _ (ts ws : List ℕ) (at left : ℕ) (l : Following program code g fuel ts₀ ws₀ a end rounds ts ws at left) where
-    pub runs_before : at < end → Runs g ts ws fuel at
+  module _ {ts ws : List ℕ} {at i : ℕ} (l : Following e fuel ts₀ ws₀ a end rounds ts ws at i) where
+    pub runs_before : at < end → Runs e.grants ts ws fuel at
     runs_before b = record { lent = l.runs.lent; room = omega (arith, l.runs.room) }
 
-    pub all_short : left ≡ 0 → shown_flow Onward ts ws ≡ all
-    unfolding statements_from give shown_flow
-    all_short z = sym (l.rest ∙ rw z)
+    pub all_short : rounds ≤ i → DoesIn ts₀ ws₀ (statements_in fuel e rounds a end) (Ok Onward) ts ws
+    unfolding statements_from
+    all_short z =
+        let d : rounds - i ≡ 0 = omega arith in
+        let q : statements_in fuel e rounds a end (raw ts₀ ws₀) ≡ give Onward (raw ts ws) = l.rest ∙ rw d refl in
+        as_in q (in_both (given Onward) ts)
 
-    pub all_done : 0 < left → end ≤ at → shown_flow Onward ts ws ≡ all
-    unfolding statements_from if◌then◌otherwise◌ give shown_flow
-    all_done m b =
-        let d : left ≡ suc (left - 1) = omega arith in
-        sym (l.rest ∙ rw d (rw (le-ltb at end b)))
+    module _ (m : i < rounds) where
+      one_by : rounds - i ≡ suc (rounds - (i + 1))
+      one_by = omega arith
 
-    module _ (m : 0 < left) (b : at < end) (r : Flow) (ts₁ ws₁ : List ℕ) (q : shown_flow r ts₁ ws₁ ≡ statement_at fuel (setting program code g) at (raw ts ws)) where
-      one_more : all ≡ go_on (statement_at fuel (setting program code g) at (raw ts ws))
-          (λ f. continue f (statements_from (left - 1) (statement_at fuel (setting program code g)) (setting program code g) (at + size_in (get_or code at 0)) end))
-      unfolding statements_from if◌then◌otherwise◌ ◌>>=◌
-      one_more =
-          let d : left ≡ suc (left - 1) = omega arith in
-          l.rest ∙ rw d (rw (lt-ltb at end b, ← d))
+      pub all_done : end ≤ at → DoesIn ts₀ ws₀ (statements_in fuel e rounds a end) (Ok Onward) ts ws
+      unfolding statements_from if◌then◌otherwise◌
+      all_done b =
+          let q : statements_in fuel e rounds a end (raw ts₀ ws₀) ≡ give Onward (raw ts ws) = l.rest ∙ rw one_by (rw (le-ltb at end b) refl) in
+          as_in q (in_both (given Onward) ts)
 
-      pub all_fails : (n z : ℕ) → r ≡ Stopped n z → shown_flow (Stopped n z) ts₁ ws₁ ≡ all
-      unfolding shown_flow
-      all_fails n z f = sym (one_more ∙ flow_stops _ q f)
+      module _ (b : at < end) where
+        one_more : statements_in fuel e rounds a end (raw ts₀ ws₀) ≡ (statement_at fuel e at >>= λ f. continue f (statements_from (rounds - (i + 1)) (statement_at fuel e) e (at + size_in (get_or e.code at 0)) end)) (raw ts ws)
+        unfolding statements_from if◌then◌otherwise◌
+        one_more = l.rest ∙ rw one_by (rw (lt-ltb at end b) refl)
 
-      pub all_returns : (v : Value) → r ≡ Returned v → shown_flow (Returned v) ts₁ ws₁ ≡ all
-      unfolding continue give shown_flow
-      all_returns v f = sym (one_more ∙ flow_returns _ q f)
+        module _ {ts₁ ws₁ : List ℕ} where
+          pub all_fails : {f : Fault} → DoesIn ts ws (statement_at fuel e at) (Err f) ts₁ ws₁ → DoesIn ts₀ ws₀ (statements_in fuel e rounds a end) (Err f) ts₁ ws₁
+          all_fails h = as_in one_more (fails_in _ h)
 
-      pub all_again : (w n : ℕ) → length ts₁ ≡ length ts → length ws₁ ≡ length ws → r ≡ Onward → w ≡ get_or code at 0 → n ≡ size_in w
-          → Following program code g fuel ts₀ ws₀ a end rounds ts₁ ws₁ (at + n) (left - 1)
-      unfolding continue
-      all_again w n j k f c d =
-          record { runs = still_runs g ts ws ts₁ ws₁ j k fuel end l.runs; texts = j ∙ l.texts; words = k ∙ l.words; rest = one_more ∙ flow_on _ q f ∙ rw (d, c) }
+          pub all_returns : {v : Value} → DoesIn ts ws (statement_at fuel e at) (Ok (Returned v)) ts₁ ws₁ → DoesIn ts₀ ws₀ (statements_in fuel e rounds a end) (Ok (Returned v)) ts₁ ws₁
+          unfolding continue
+          all_returns {v = v} h = as_in one_more (goes_in _ h (in_both (given (Returned v)) ts₁))
 
--- ---- the statements of a procedure
-module _ (program code g : List ℕ) (fuel : ℕ) (ts₀ ws₀ : List ℕ) (a end rounds : ℕ) (ts ws : List ℕ) (at left : ℕ) (l : Following program code g fuel ts₀ ws₀ a end rounds ts ws at left) where
-  pub ends_short : left ≡ 0 → Ended (Good Nothing) ts ws (all program code g fuel ts₀ ws₀ a end rounds)
-  unfolding answer_of
-  ends_short z = record { flow = Onward; shows = all_short program code g fuel ts₀ ws₀ a end rounds ts ws at left l z; answers = refl }
+          pub all_again : {w n : ℕ} → length ts₁ ≡ length ts → length ws₁ ≡ length ws → DoesIn ts ws (statement_at fuel e at) (Ok Onward) ts₁ ws₁ → w ≡ get_or e.code at 0 → n ≡ size_in w
+              → Following e fuel ts₀ ws₀ a end rounds ts₁ ws₁ (at + n) (i + 1)
+          unfolding continue
+          all_again j k h c d = record {
+            runs = still_runs e.grants ts ws ts₁ ws₁ j k fuel end l.runs;
+            texts = j ∙ l.texts;
+            words = k ∙ l.words;
+            rest = one_more ∙ after_in _ h ∙ rw (d, c) refl;
+          }
 
-  pub ends_done : 0 < left → end ≤ at → Ended (Good Nothing) ts ws (all program code g fuel ts₀ ws₀ a end rounds)
-  unfolding answer_of
-  ends_done m b = record { flow = Onward; shows = all_done program code g fuel ts₀ ws₀ a end rounds ts ws at left l m b; answers = refl }
+          -- a return among a procedure's statements
+          pub all_left : {r : Result Value Fault} → DoesIn ts ws (statement_at fuel e at) (returned r) ts₁ ws₁ → DoesIn ts₀ ws₀ (procedure_in fuel e rounds a end) r ts₁ ws₁
+          unfolding returned result_of
+          all_left {r = Ok v} h = goes_in result_of (all_returns h) (in_both (given v) ts₁)
+          all_left {r = Err f} h = fails_in result_of (all_fails h)
 
-  pub leaves_here : (w tag : ℕ) → at < end → w ≡ get_or code at 0 → tag ≡ tag_in w → tag ≡ tag_return → Leaves code g ts ws fuel w at
-  leaves_here w tag b f i t = record { runs = runs_before program code g fuel ts₀ ws₀ a end rounds ts ws at left l b; word = f; tagged = sym i ∙ t }
-
-  module _ (m : 0 < left) (b : at < end) where
-    pub ends_left : (r : Answer) (ts₁ ws₁ : List ℕ) → shown_flow (given r) ts₁ ws₁ ≡ statement_at fuel (setting program code g) at (raw ts ws)
-        → Ended r ts₁ ws₁ (all program code g fuel ts₀ ws₀ a end rounds)
-    unfolding given answer_of
-    ends_left (Good v) ts₁ ws₁ q =
-        record { flow = Returned v; shows = all_returns program code g fuel ts₀ ws₀ a end rounds ts ws at left l m b (Returned v) ts₁ ws₁ q v refl; answers = refl }
-    ends_left (Bad n z) ts₁ ws₁ q =
-        record { flow = Stopped n z; shows = all_fails program code g fuel ts₀ ws₀ a end rounds ts ws at left l m b (Stopped n z) ts₁ ws₁ q n z refl; answers = refl }
-
-    module _ (r : Flow) (ts₁ ws₁ : List ℕ) (q : shown_flow r ts₁ ws₁ ≡ statement_at fuel (setting program code g) at (raw ts ws)) where
-      pub ends_fails : (n z : ℕ) → r ≡ Stopped n z → Ended (Bad n z) ts₁ ws₁ (all program code g fuel ts₀ ws₀ a end rounds)
-      unfolding answer_of
-      ends_fails n z f = record { flow = Stopped n z; shows = all_fails program code g fuel ts₀ ws₀ a end rounds ts ws at left l m b r ts₁ ws₁ q n z f; answers = refl }
-
-      pub ends_returns : (v : Value) → r ≡ Returned v → Ended (Good v) ts₁ ws₁ (all program code g fuel ts₀ ws₀ a end rounds)
-      unfolding answer_of
-      ends_returns v f = record { flow = Returned v; shows = all_returns program code g fuel ts₀ ws₀ a end rounds ts ws at left l m b r ts₁ ws₁ q v f; answers = refl }
+        pub leaves_here : {w tag : ℕ} → w ≡ get_or e.code at 0 → tag ≡ tag_in w → tag ≡ tag_return → Leaves e.code e.grants ts ws fuel w at
+        leaves_here f i t = record { runs = runs_before b; word = f; tagged = sym i ∙ t }
 
 -- ---- a body
-pub in_body : (program code g : List ℕ) (fuel a n : ℕ) (ts ws : List ℕ) (o : Out Flow)
-    → o ≡ statements_from (n + 1) (statement_at fuel (setting program code g)) (setting program code g) a (a + n) (raw ts ws)
-    → o ≡ body_at fuel (setting program code g) a n (raw ts ws)
+pub in_body : (e : Setting) (fuel a n : ℕ) {r : Result Flow Fault} {ts ws ts₁ ws₁ : List ℕ}
+    → DoesIn ts ws (statements_in fuel e (n + 1) a (a + n)) r ts₁ ws₁
+    → DoesIn ts ws (body_at fuel e a n) r ts₁ ws₁
 unfolding body_at
-in_body program code g fuel a n ts ws o h = h
+in_body e fuel a n h = h

@@ -1,4 +1,3 @@
 pub mod Asked
 pub mod Cycle
-pub mod Ended
 pub mod Members

@@ -3,17 +3,15 @@
 #![tactic(auto)]
 
 ghost use Rattle.std.specs.Prelude.{◌+◌, ◌≡◌};
-ghost use Rattle.machine.specs.Act.{raw, shown};
-ghost use Rattle.machine.specs.Effects.{shown_flow, shown_test};
+ghost use Rattle.machine.specs.Act.{DoesIn};
 ghost use Rattle.machine.specs.Evaluate.{setting};
 ghost use Rattle.machine.specs.Loops.{turn, loop_over};
 ghost use Rattle.machine.specs.Interpret.{expression_at, statement_at, body_at, invoke_at};
 ghost use Rattle.interpreter.specs.Asked.{Lent, Calls, Runs, Leaves, Body};
-ghost use Rattle.interpreter.specs.Cycle.{operands_in, call_in, argument_in, simple_in, update_in, test_in, when_in, repeat_in, foreach_in, statements_in};
-ghost use Rattle.interpreter.specs.Ended.{given, Ended};
+ghost use Rattle.interpreter.specs.Cycle.{operands_in, call_in, argument_in, simple_in, update_in, test_in, when_in, repeat_in, foreach_in, statements_in, procedure_in, returned};
 ghost use Rattle.interpreter.specs.Members.{member_at, inside_at};
 
-use machine::{Answer, Flow, Outcome, Value, granted, tags};
+use machine::{Fault, Flow, Value, granted, tags};
 
 // ---- expressions
 // An expression by its root x, in the statement at p. An answer that is handed on is made anew, here and in `simple`: a copy would be read in other
@@ -28,32 +26,26 @@ fn expression(
     fuel: usize,
     x: usize,
     p: u64,
-) -> Answer
+) -> Result<Value, Fault>
     requires { Lent grants.now texts.old words.old fuel }
-    ensures { shown result texts.new words.new
-        ≡ expression_at fuel (setting program.now code.now grants.now) x p (raw texts.old words.old) }
+    ensures { DoesIn texts.old words.old (expression_at fuel (setting program.now code.now grants.now) x p)
+        result texts.new words.new }
 {
     if fuel == 0 {
-        return Answer::Bad(20, p);
+        return Err(Fault::Misuse(p));
     }
-    if !stores::counters::count(words, grants) {
-        return Answer::Bad(79, p);
-    }
+    stores::counters::take_step(words, grants, p)?;
     let w = stores::words::word_at(code, x);
     let tag = code::tag_of(w);
     if tag < tags::TABLE {
         return results::leaf(words, w, p);
     }
     if tag == tags::CALL {
-        match call(program, code, grants, texts, words, fuel - 1, w, x, p) {
-            Answer::Good(v) => return Answer::Good(v),
-            Answer::Bad(n, q) => return Answer::Bad(n, q),
-        }
+        let v = call(program, code, grants, texts, words, fuel - 1, w, x, p)?;
+        return Ok(v);
     }
-    match operands(program, code, grants, texts, words, fuel - 1, w, x, p) {
-        Answer::Good(v) => Answer::Good(v),
-        Answer::Bad(n, q) => Answer::Bad(n, q),
-    }
+    let v = operands(program, code, grants, texts, words, fuel - 1, w, x, p)?;
+    Ok(v)
 }
 
 // A new table by its size, a table read, or an operator.
@@ -68,12 +60,12 @@ fn operands(
     w: u64,
     x: usize,
     p: u64,
-) -> Answer
+) -> Result<Value, Fault>
     requires { Lent grants.now texts.old words.old fuel }
-    ensures { shown result texts.new words.new
-        ≡ operands_in fuel (setting program.now code.now grants.now) w x p (raw texts.old words.old) }
+    ensures { DoesIn texts.old words.old (operands_in fuel (setting program.now code.now grants.now) w x p)
+        result texts.new words.new }
 {
-    match expression(
+    let u = expression(
         program,
         code,
         grants,
@@ -82,45 +74,26 @@ fn operands(
         fuel,
         code::left_of(w, x),
         p,
-    ) {
-        Answer::Good(u) => {
-            let a = values::pack(u);
-            let tag = code::tag_of(w);
-            if tag == tags::TABLE {
-                let r = results::new_table(words, a, p);
-                return r;
-            }
-            if results::lacks_table(tag, a) {
-                return Answer::Bad(20, p);
-            }
-            match expression(
-                program,
-                code,
-                grants,
-                texts,
-                words,
-                fuel,
-                code::right_of(x),
-                p,
-            ) {
-                Answer::Good(v) => {
-                    let r = results::apply(
-                        program,
-                        grants,
-                        texts,
-                        words,
-                        tag,
-                        p,
-                        a,
-                        values::pack(v),
-                    );
-                    r
-                }
-                Answer::Bad(n, q) => Answer::Bad(n, q),
-            }
-        }
-        Answer::Bad(n, q) => Answer::Bad(n, q),
+    )?;
+    let a = values::pack(u);
+    let tag = code::tag_of(w);
+    if tag == tags::TABLE {
+        return results::new_table(words, a, p);
     }
+    if results::lacks_table(tag, a) {
+        return Err(Fault::Misuse(p));
+    }
+    let v = expression(
+        program,
+        code,
+        grants,
+        texts,
+        words,
+        fuel,
+        code::right_of(x),
+        p,
+    )?;
+    results::apply(program, grants, texts, words, tag, p, a, values::pack(v))
 }
 
 // A call, its arguments one after the other.
@@ -135,23 +108,20 @@ fn call(
     w: u64,
     x: usize,
     p: u64,
-) -> Answer
+) -> Result<Value, Fault>
     requires { Lent grants.now texts.old words.old fuel }
-    ensures { shown result texts.new words.new
-        ≡ call_in fuel (setting program.now code.now grants.now) w x p (raw texts.old words.old) }
+    ensures { DoesIn texts.old words.old (call_in fuel (setting program.now code.now grants.now) w x p)
+        result texts.new words.new }
 {
     let base = stores::arguments::arguments_held(words);
     let a = code::first_argument(w, x);
     let mut y = code::argument_root(stores::words::word_at(code, a), a, x);
     while y < x {
-        match argument(program, code, grants, texts, words, fuel, y, p) {
-            Answer::Good(_) => {}
-            Answer::Bad(n, q) => return Answer::Bad(n, q),
-        }
+        argument(program, code, grants, texts, words, fuel, y, p)?;
         y = code::argument_root(stores::words::word_at(code, y + 1), y + 1, x);
     }
     let number = code::library_of(w);
-    let r = if number == machine::procedures::OTHER {
+    if number == machine::procedures::OTHER {
         invoke(
             program,
             code,
@@ -165,8 +135,7 @@ fn call(
         )
     } else {
         results::called(words, grants, number, p, base)
-    };
-    r
+    }
 }
 
 // An argument by its root, pushed: worked out at once where it can be.
@@ -180,18 +149,16 @@ fn argument(
     fuel: usize,
     y: usize,
     p: u64,
-) -> Answer
+) -> Result<(), Fault>
     requires { Lent grants.now texts.old words.old fuel }
-    ensures { shown result texts.new words.new
-        ≡ argument_in fuel (setting program.now code.now grants.now) y p (raw texts.old words.old) }
+    ensures { DoesIn texts.old words.old (argument_in fuel (setting program.now code.now grants.now) y p)
+        result texts.new words.new }
 {
     let w = fastpath::argument_value(words, code, grants, fuel, y);
     if w != 0 {
-        let r = results::push_word(words, w, p);
-        return r;
+        return stores::arguments::push(words, w, p);
     }
-    let r = pushed(program, code, grants, texts, words, fuel, y, p);
-    r
+    pushed(program, code, grants, texts, words, fuel, y, p)
 }
 
 // The same of one that is evaluated as any expression. It is a function of its own so that what its call takes of the stack is free again before the next.
@@ -205,18 +172,13 @@ fn pushed(
     fuel: usize,
     y: usize,
     p: u64,
-) -> Answer
+) -> Result<(), Fault>
     requires { Lent grants.now texts.old words.old fuel }
-    ensures { shown result texts.new words.new
-        ≡ argument_in fuel (setting program.now code.now grants.now) y p (raw texts.old words.old) }
+    ensures { DoesIn texts.old words.old (argument_in fuel (setting program.now code.now grants.now) y p)
+        result texts.new words.new }
 {
-    match expression(program, code, grants, texts, words, fuel, y, p) {
-        Answer::Good(v) => {
-            let r = results::push_word(words, values::pack(v), p);
-            r
-        }
-        Answer::Bad(n, q) => Answer::Bad(n, q),
-    }
+    let v = expression(program, code, grants, texts, words, fuel, y, p)?;
+    stores::arguments::push(words, values::pack(v), p)
 }
 
 // A procedure of the program by its name's slot, on the arguments from the one numbered base on.
@@ -231,20 +193,17 @@ fn invoke(
     callee: usize,
     p: u64,
     base: usize,
-) -> Answer
+) -> Result<Value, Fault>
     requires { Calls grants.now texts.old words.old fuel callee }
-    ensures { shown result texts.new words.new
-        ≡ invoke_at fuel (setting program.now code.now grants.now) callee p base (raw texts.old words.old) }
+    ensures { DoesIn texts.old words.old (invoke_at fuel (setting program.now code.now grants.now) callee p base)
+        result texts.new words.new }
 {
     let top = stores::arguments::arguments_held(words) as usize;
-    match procedures::begin(words, code, grants, callee, top, p, base) {
-        Answer::Good(_) => {}
-        Answer::Bad(k, q) => return Answer::Bad(k, q),
-    }
+    procedures::begin(words, code, grants, callee, top, p, base)?;
     let d = stores::words::word_at(code, code::table_place(callee));
     let a = code::start_of(d) + code::parameters_of(d);
     let size = code::body_of(d);
-    match procedure(
+    let v = procedure(
         program,
         code,
         grants,
@@ -254,13 +213,9 @@ fn invoke(
         a,
         a + size,
         size + 1,
-    ) {
-        Answer::Good(v) => {
-            frames::calls::resume(words, base as u64);
-            Answer::Good(v)
-        }
-        Answer::Bad(k, q) => Answer::Bad(k, q),
-    }
+    )?;
+    frames::calls::resume(words, base as u64);
+    Ok(v)
 }
 
 // A procedure's statements from a up to end, one after the other, at most so many, and what they give. A return among them is executed here.
@@ -275,31 +230,26 @@ fn procedure(
     a: usize,
     end: usize,
     rounds: usize,
-) -> Answer
+) -> Result<Value, Fault>
     requires { Runs grants.now texts.old words.old fuel end }
-    ensures { Ended result texts.new words.new
-        (statements_in fuel (setting program.now code.now grants.now) rounds a end (raw texts.old words.old)) }
+    ensures { DoesIn texts.old words.old (procedure_in fuel (setting program.now code.now grants.now) rounds a end)
+        result texts.new words.new }
 {
     let mut at = a;
-    let mut left = rounds;
-    while 0 < left {
-        left -= 1;
+    for _ in 0..rounds {
         if end <= at {
-            return Answer::Good(Value::Nothing);
+            return Ok(Value::Nothing);
         }
         let w = stores::words::word_at(code, at);
         if code::tag_of(w) == tags::RETURN {
-            let r = leave(program, code, grants, texts, words, fuel, w, at);
-            return r;
+            return leave(program, code, grants, texts, words, fuel, w, at);
         }
-        match statement(program, code, grants, texts, words, fuel, at) {
-            Flow::Onward => {}
-            Flow::Returned(v) => return Answer::Good(v),
-            Flow::Stopped(n, q) => return Answer::Bad(n, q),
+        if let Flow::Returned(v) = statement(program, code, grants, texts, words, fuel, at)? {
+            return Ok(v);
         }
         at += code::size_of(w);
     }
-    Answer::Good(Value::Nothing)
+    Ok(Value::Nothing)
 }
 
 // A return by its word, and the value that it gives: worked out at once where it can be.
@@ -313,27 +263,23 @@ fn leave(
     fuel: usize,
     w: u64,
     x: usize,
-) -> Answer
+) -> Result<Value, Fault>
     requires { Leaves code.now grants.now texts.old words.old fuel w x }
-    ensures { shown_flow (given result) texts.new words.new
-        ≡ statement_at fuel (setting program.now code.now grants.now) x (raw texts.old words.old) }
+    ensures { DoesIn texts.old words.old (statement_at fuel (setting program.now code.now grants.now) x)
+        (returned result) texts.new words.new }
 {
     if fuel == 0 {
-        return Answer::Bad(20, 0);
+        return Err(Fault::Misuse(0));
     }
     let p = code::place_of(w);
-    if !stores::counters::count(words, grants) {
-        return Answer::Bad(79, p);
-    }
+    stores::counters::take_step(words, grants, p)?;
     let y = code::last_of(w, x);
     let k = fastpath::fast_value(words, code, grants, fuel - 1, y);
     if k != 0 {
-        return Answer::Good(values::unpack(k));
+        return Ok(values::unpack(k));
     }
-    match expression(program, code, grants, texts, words, fuel - 1, y, p) {
-        Answer::Good(v) => Answer::Good(values::unpack(values::pack(v))),
-        Answer::Bad(n, q) => Answer::Bad(n, q),
-    }
+    let v = expression(program, code, grants, texts, words, fuel - 1, y, p)?;
+    Ok(values::unpack(values::pack(v)))
 }
 
 // ---- statements that hold no others
@@ -349,28 +295,22 @@ fn simple(
     w: u64,
     x: usize,
     p: u64,
-) -> Flow
+) -> Result<Flow, Fault>
     requires { Runs grants.now texts.old words.old fuel x }
-    ensures { shown_flow result texts.new words.new
-        ≡ simple_in fuel (setting program.now code.now grants.now) w x p (raw texts.old words.old) }
+    ensures { DoesIn texts.old words.old (simple_in fuel (setting program.now code.now grants.now) w x p)
+        result texts.new words.new }
 {
     let y = code::last_of(w, x);
     let k = fastpath::fast_value(words, code, grants, fuel, y);
     if k != 0 {
         if code::tag_of(w) == tags::ASSIGN {
-            let r = effects::put_word(words, grants, code::extra_of(w), k, p);
-            return r;
+            return effects::put_word(words, grants, code::extra_of(w), k, p);
         }
-        return effects::pass_on(w, k);
+        return Ok(effects::pass_on(w, k));
     }
-    match expression(program, code, grants, texts, words, fuel, y, p) {
-        Answer::Good(v) => match effects::finish(words, grants, w, values::pack(v), p) {
-            Flow::Onward => Flow::Onward,
-            Flow::Returned(u) => Flow::Returned(u),
-            Flow::Stopped(n, q) => Flow::Stopped(n, q),
-        },
-        Answer::Bad(n, q) => Flow::Stopped(n, q),
-    }
+    let v = expression(program, code, grants, texts, words, fuel, y, p)?;
+    let flow = effects::finish(words, grants, w, values::pack(v), p)?;
+    Ok(flow)
 }
 
 // An update: the table and the key stand before the value whose root is y.
@@ -384,43 +324,32 @@ fn update(
     fuel: usize,
     y: usize,
     p: u64,
-) -> Flow
+) -> Result<Flow, Fault>
     requires { Lent grants.now texts.old words.old fuel }
-    ensures { shown_flow result texts.new words.new
-        ≡ update_in fuel (setting program.now code.now grants.now) y p (raw texts.old words.old) }
+    ensures { DoesIn texts.old words.old (update_in fuel (setting program.now code.now grants.now) y p)
+        result texts.new words.new }
 {
     let b = code::before(stores::words::word_at(code, y), y);
     let a = code::before(stores::words::word_at(code, b), b);
-    match expression(program, code, grants, texts, words, fuel, a, p) {
-        Answer::Good(v) => match v {
-            Value::Table(t) => match expression(program, code, grants, texts, words, fuel, b, p) {
-                Answer::Good(u) => {
-                    let key = values::pack(u);
-                    match expression(program, code, grants, texts, words, fuel, y, p) {
-                        Answer::Good(z) => {
-                            let number = tables::entries::store_entry(
-                                program,
-                                texts,
-                                words,
-                                grants,
-                                t,
-                                key,
-                                values::pack(z),
-                            );
-                            if number != 0 {
-                                return Flow::Stopped(number, p);
-                            }
-                            Flow::Onward
-                        }
-                        Answer::Bad(n, q) => Flow::Stopped(n, q),
-                    }
-                }
-                Answer::Bad(n, q) => Flow::Stopped(n, q),
-            },
-            _ => Flow::Stopped(20, p),
-        },
-        Answer::Bad(n, q) => Flow::Stopped(n, q),
+    let Value::Table(t) = expression(program, code, grants, texts, words, fuel, a, p)? else {
+        return Err(Fault::Misuse(p));
+    };
+    let u = expression(program, code, grants, texts, words, fuel, b, p)?;
+    let key = values::pack(u);
+    let z = expression(program, code, grants, texts, words, fuel, y, p)?;
+    let number = tables::entries::store_entry(
+        program,
+        texts,
+        words,
+        grants,
+        t,
+        key,
+        values::pack(z),
+    );
+    if number != 0 {
+        return Err(Fault::Numbered(number, p));
     }
+    Ok(Flow::Onward)
 }
 
 // A test by its root: worked out at once where it can be. The code is lent anew for the same reason.
@@ -434,20 +363,18 @@ fn test(
     fuel: usize,
     y: usize,
     p: u64,
-) -> Outcome
+) -> Result<bool, Fault>
     requires { Lent grants.now texts.old words.old fuel }
-    ensures { shown_test result texts.new words.new
-        ≡ test_in fuel (setting program.now code.now grants.now) y p (raw texts.old words.old) }
+    ensures { DoesIn texts.old words.old (test_in fuel (setting program.now code.now grants.now) y p)
+        result texts.new words.new }
 {
     let code = &code[0..];
     let k = fastpath::fast_value(words, code, grants, fuel, y);
     if k != 0 {
         return effects::outcome_of(k, p);
     }
-    match expression(program, code, grants, texts, words, fuel, y, p) {
-        Answer::Good(v) => effects::outcome_of(values::pack(v), p),
-        Answer::Bad(n, q) => Outcome::Stopped(n, q),
-    }
+    let v = expression(program, code, grants, texts, words, fuel, y, p)?;
+    effects::outcome_of(values::pack(v), p)
 }
 
 // ---- statements that hold others
@@ -461,19 +388,19 @@ fn statement(
     words: &mut [u64],
     fuel: usize,
     x: usize,
-) -> Flow
+) -> Result<Flow, Fault>
     requires { Runs grants.now texts.old words.old fuel x }
-    ensures { shown_flow result texts.new words.new
-        ≡ statement_at fuel (setting program.now code.now grants.now) x (raw texts.old words.old) }
+    ensures { DoesIn texts.old words.old (statement_at fuel (setting program.now code.now grants.now) x)
+        result texts.new words.new }
 {
     if fuel == 0 {
-        return Flow::Stopped(20, 0);
+        return Err(Fault::Misuse(0));
     }
     let w = stores::words::word_at(code, x);
     let p = code::place_of(w);
     let tag = code::tag_of(w);
     if tag == tags::WHILE {
-        let r = repeat(
+        return repeat(
             program,
             code,
             grants,
@@ -483,59 +410,44 @@ fn statement(
             x + code::extra_of(w),
             p,
         );
-        return r;
     }
-    if !stores::counters::count(words, grants) {
-        return Flow::Stopped(79, p);
-    }
+    stores::counters::take_step(words, grants, p)?;
     match tag {
-        tags::DECLARE => {
-            let r = effects::declare(words, code::extra_of(w), p);
-            r
-        }
-        tags::UPDATE => {
-            let r = update(
-                program,
-                code,
-                grants,
-                texts,
-                words,
-                fuel - 1,
-                code::last_of(w, x),
-                p,
-            );
-            r
-        }
-        tags::WHEN => {
-            let r = when(
-                program,
-                code,
-                grants,
-                texts,
-                words,
-                fuel - 1,
-                x + code::extra_of(w),
-                p,
-            );
-            r
-        }
-        tags::FOREACH => {
-            let r = each(
-                program,
-                code,
-                grants,
-                texts,
-                words,
-                fuel - 1,
-                stores::words::word_at(code, x + 1) as usize,
-                x + code::extra_of(w),
-                p,
-            );
-            r
-        }
+        tags::DECLARE => effects::declare(words, code::extra_of(w), p),
+        tags::UPDATE => update(
+            program,
+            code,
+            grants,
+            texts,
+            words,
+            fuel - 1,
+            code::last_of(w, x),
+            p,
+        ),
+        tags::WHEN => when(
+            program,
+            code,
+            grants,
+            texts,
+            words,
+            fuel - 1,
+            x + code::extra_of(w),
+            p,
+        ),
+        tags::FOREACH => each(
+            program,
+            code,
+            grants,
+            texts,
+            words,
+            fuel - 1,
+            stores::words::word_at(code, x + 1) as usize,
+            x + code::extra_of(w),
+            p,
+        ),
         tags::BLOCK => {
             let n = code::size_of(w);
-            let r = statements(
+            statements(
                 program,
                 code,
                 grants,
@@ -545,13 +457,9 @@ fn statement(
                 x + 1,
                 x + n,
                 n + 1,
-            );
-            r
+            )
         }
-        _ => {
-            let r = simple(program, code, grants, texts, words, fuel - 1, w, x, p);
-            r
-        }
+        _ => simple(program, code, grants, texts, words, fuel - 1, w, x, p),
     }
 }
 
@@ -566,20 +474,16 @@ fn when(
     fuel: usize,
     y: usize,
     p: u64,
-) -> Flow
+) -> Result<Flow, Fault>
     requires { Runs grants.now texts.old words.old fuel (y + 1) }
-    ensures { shown_flow result texts.new words.new
-        ≡ when_in fuel (setting program.now code.now grants.now) y p (raw texts.old words.old) }
+    ensures { DoesIn texts.old words.old (when_in fuel (setting program.now code.now grants.now) y p)
+        result texts.new words.new }
 {
-    match test(program, code, grants, texts, words, fuel, y, p) {
-        Outcome::Yes => match statement(program, code, grants, texts, words, fuel, y + 1) {
-            Flow::Onward => Flow::Onward,
-            Flow::Returned(v) => Flow::Returned(v),
-            Flow::Stopped(n, q) => Flow::Stopped(n, q),
-        },
-        Outcome::No => Flow::Onward,
-        Outcome::Stopped(n, q) => Flow::Stopped(n, q),
+    if !test(program, code, grants, texts, words, fuel, y, p)? {
+        return Ok(Flow::Onward);
     }
+    let flow = statement(program, code, grants, texts, words, fuel, y + 1)?;
+    Ok(flow)
 }
 
 // The statement behind the test whose root is y, as long as it holds.
@@ -593,29 +497,23 @@ fn repeat(
     fuel: usize,
     y: usize,
     p: u64,
-) -> Flow
+) -> Result<Flow, Fault>
     requires { Runs grants.now texts.old words.old fuel (y + 1) }
-    ensures { shown_flow result texts.new words.new
-        ≡ repeat_in fuel (setting program.now code.now grants.now) y p (raw texts.old words.old) }
+    ensures { DoesIn texts.old words.old (repeat_in fuel (setting program.now code.now grants.now) y p)
+        result texts.new words.new }
 {
-    let mut turns = grants[granted::STEPS] + 1;
-    while 0 < turns {
-        turns -= 1;
-        if !stores::counters::count(words, grants) {
-            return Flow::Stopped(79, p);
+    let turns = grants[granted::STEPS] + 1;
+    for _ in 0..turns {
+        stores::counters::take_step(words, grants, p)?;
+        let holds = test(program, code, grants, texts, words, fuel, y, p)?;
+        if !holds {
+            return Ok(Flow::Onward);
         }
-        match test(program, code, grants, texts, words, fuel, y, p) {
-            Outcome::Yes => {}
-            Outcome::No => return Flow::Onward,
-            Outcome::Stopped(n, q) => return Flow::Stopped(n, q),
-        }
-        match statement(program, code, grants, texts, words, fuel, y + 1) {
-            Flow::Onward => {}
-            Flow::Returned(v) => return Flow::Returned(v),
-            Flow::Stopped(n, q) => return Flow::Stopped(n, q),
+        if let Flow::Returned(v) = statement(program, code, grants, texts, words, fuel, y + 1)? {
+            return Ok(Flow::Returned(v));
         }
     }
-    Flow::Stopped(79, p)
+    Err(Fault::NoStepLeft(p))
 }
 
 // The statements from a up to end, one after the other, at most so many.
@@ -630,26 +528,22 @@ fn statements(
     a: usize,
     end: usize,
     rounds: usize,
-) -> Flow
+) -> Result<Flow, Fault>
     requires { Runs grants.now texts.old words.old fuel end }
-    ensures { shown_flow result texts.new words.new
-        ≡ statements_in fuel (setting program.now code.now grants.now) rounds a end (raw texts.old words.old) }
+    ensures { DoesIn texts.old words.old (statements_in fuel (setting program.now code.now grants.now) rounds a end)
+        result texts.new words.new }
 {
     let mut at = a;
-    let mut left = rounds;
-    while 0 < left {
-        left -= 1;
+    for _ in 0..rounds {
         if end <= at {
-            return Flow::Onward;
+            return Ok(Flow::Onward);
         }
-        match statement(program, code, grants, texts, words, fuel, at) {
-            Flow::Onward => {}
-            Flow::Returned(v) => return Flow::Returned(v),
-            Flow::Stopped(n, q) => return Flow::Stopped(n, q),
+        if let Flow::Returned(v) = statement(program, code, grants, texts, words, fuel, at)? {
+            return Ok(Flow::Returned(v));
         }
         at += code::size_of(stores::words::word_at(code, at));
     }
-    Flow::Onward
+    Ok(Flow::Onward)
 }
 
 // ---- loops over groups
@@ -665,25 +559,16 @@ fn each(
     slot: usize,
     y: usize,
     p: u64,
-) -> Flow
+) -> Result<Flow, Fault>
     requires { Runs grants.now texts.old words.old fuel (y + 1) }
-    ensures { shown_flow result texts.new words.new
-        ≡ foreach_in fuel (setting program.now code.now grants.now) slot y p (raw texts.old words.old) }
+    ensures { DoesIn texts.old words.old (foreach_in fuel (setting program.now code.now grants.now) slot y p)
+        result texts.new words.new }
 {
-    match expression(program, code, grants, texts, words, fuel, y, p) {
-        Answer::Good(v) => match v {
-            Value::Shape(i) => {
-                let number = effects::open_loop(words, slot, i);
-                if number != 0 {
-                    return Flow::Stopped(number, p);
-                }
-                let r = own(program, code, grants, texts, words, fuel, slot, y + 1, p, i);
-                r
-            }
-            _ => Flow::Stopped(20, p),
-        },
-        Answer::Bad(n, q) => Flow::Stopped(n, q),
-    }
+    let Value::Shape(i) = expression(program, code, grants, texts, words, fuel, y, p)? else {
+        return Err(Fault::Misuse(p));
+    };
+    effects::open_loop(words, slot, i, p)?;
+    own(program, code, grants, texts, words, fuel, slot, y + 1, p, i)
 }
 
 // The statement at b for each figure in group i, its own components one after the other.
@@ -699,28 +584,24 @@ fn own(
     b: usize,
     p: u64,
     i: u32,
-) -> Flow
+) -> Result<Flow, Fault>
     requires { Runs grants.now texts.old words.old fuel b }
-    ensures { shown_flow result texts.new words.new
-        ≡ loop_over (statement_at fuel (setting program.now code.now grants.now) b) grants.now p slot i (raw texts.old words.old) }
+    ensures { DoesIn texts.old words.old (loop_over (statement_at fuel (setting program.now code.now grants.now) b) grants.now p slot i)
+        result texts.new words.new }
 {
-    let mut k = stores::components::first_at(words, i);
-    let mut n = stores::components::count_at(words, i);
+    let first = stores::components::first_at(words, i);
+    let n = stores::components::count_at(words, i);
     let unit = effects::enter_loop(words);
-    while 0 < n {
-        n -= 1;
-        match member(program, code, grants, texts, words, fuel, slot, b, p, k) {
-            Flow::Onward => {}
-            Flow::Returned(v) => {
-                effects::leave_loop(words, unit);
-                return Flow::Returned(v);
-            }
-            Flow::Stopped(m, q) => return Flow::Stopped(m, q),
+    for k in first..first + n {
+        if let Flow::Returned(v) = member(
+            program, code, grants, texts, words, fuel, slot, b, p, k,
+        )? {
+            effects::leave_loop(words, unit);
+            return Ok(Flow::Returned(v));
         }
-        k += 1;
     }
     effects::leave_loop(words, unit);
-    Flow::Onward
+    Ok(Flow::Onward)
 }
 
 // For each figure that the component in slot k is or holds; it is passed over without a step if it is destroyed.
@@ -736,24 +617,20 @@ fn member(
     b: usize,
     p: u64,
     k: u32,
-) -> Flow
+) -> Result<Flow, Fault>
     requires { Runs grants.now texts.old words.old fuel b }
-    ensures { shown_flow result texts.new words.new
-        ≡ member_at (statement_at fuel (setting program.now code.now grants.now) b) grants.now p slot k (raw texts.old words.old) }
+    ensures { DoesIn texts.old words.old (member_at (statement_at fuel (setting program.now code.now grants.now) b) grants.now p slot k)
+        result texts.new words.new }
 {
     let c = stores::components::component_at(words, grants, k);
     if stores::shapes::is_destroyed(words, c) {
-        return Flow::Onward;
+        return Ok(Flow::Onward);
     }
-    if !stores::counters::count(words, grants) {
-        return Flow::Stopped(79, p);
-    }
+    stores::counters::take_step(words, grants, p)?;
     if !stores::shapes::is_group(words, c) {
-        let r = bound(program, code, grants, texts, words, fuel, slot, b, c);
-        return r;
+        return bound(program, code, grants, texts, words, fuel, slot, b, c);
     }
-    let r = inside(program, code, grants, texts, words, fuel, slot, b, p, k, c);
-    r
+    inside(program, code, grants, texts, words, fuel, slot, b, p, k, c)
 }
 
 // For each figure in group c, the component in slot end.
@@ -770,31 +647,25 @@ fn inside(
     p: u64,
     end: u32,
     c: u32,
-) -> Flow
+) -> Result<Flow, Fault>
     requires { Runs grants.now texts.old words.old fuel b }
-    ensures { shown_flow result texts.new words.new
-        ≡ inside_at (statement_at fuel (setting program.now code.now grants.now) b) grants.now p slot end c
-        (raw texts.old words.old) }
+    ensures { DoesIn texts.old words.old (inside_at (statement_at fuel (setting program.now code.now grants.now) b) grants.now p slot end c)
+        result texts.new words.new }
 {
     let mut found = loops::looking::look_in(words, grants, c);
-    let mut turns = grants[granted::STEPS] + 1;
-    while 0 < turns {
-        turns -= 1;
+    let turns = grants[granted::STEPS] + 1;
+    for _ in 0..turns {
         if found == 0 {
-            return Flow::Onward;
+            return Ok(Flow::Onward);
         }
         let i = stores::components::component_at(words, grants, found - 1);
-        match bound(program, code, grants, texts, words, fuel, slot, b, i) {
-            Flow::Onward => {}
-            Flow::Returned(v) => {
-                loops::marks::unmark_below(words, grants, end);
-                return Flow::Returned(v);
-            }
-            Flow::Stopped(n, q) => return Flow::Stopped(n, q),
+        if let Flow::Returned(v) = bound(program, code, grants, texts, words, fuel, slot, b, i)? {
+            loops::marks::unmark_below(words, grants, end);
+            return Ok(Flow::Returned(v));
         }
         found = loops::looking::look_behind(words, grants, end, found - 1);
     }
-    Flow::Stopped(79, p)
+    Err(Fault::NoStepLeft(p))
 }
 
 // The statement at b with the variable bound to shape i.
@@ -809,14 +680,13 @@ fn bound(
     slot: usize,
     b: usize,
     i: u32,
-) -> Flow
+) -> Result<Flow, Fault>
     requires { Runs grants.now texts.old words.old fuel b }
-    ensures { shown_flow result texts.new words.new
-        ≡ turn (statement_at fuel (setting program.now code.now grants.now) b) slot i (raw texts.old words.old) }
+    ensures { DoesIn texts.old words.old (turn (statement_at fuel (setting program.now code.now grants.now) b) slot i)
+        result texts.new words.new }
 {
     frames::variables::set_variable(words, slot, values::pack(Value::Shape(i)));
-    let r = statement(program, code, grants, texts, words, fuel, b);
-    r
+    statement(program, code, grants, texts, words, fuel, b)
 }
 
 // A body of n words from a on.
@@ -829,11 +699,10 @@ pub fn body(
     fuel: usize,
     a: usize,
     n: usize,
-) -> Flow
+) -> Result<Flow, Fault>
     requires { Body grants.now texts.old words.old fuel a n }
-    ensures { shown_flow result texts.new words.new
-        ≡ body_at fuel (setting program.now code.now grants.now) a n (raw texts.old words.old) }
+    ensures { DoesIn texts.old words.old (body_at fuel (setting program.now code.now grants.now) a n)
+        result texts.new words.new }
 {
-    let r = statements(program, code, grants, texts, words, fuel, a, a + n, n + 1);
-    r
+    statements(program, code, grants, texts, words, fuel, a, a + n, n + 1)
 }

@@ -1,30 +1,13 @@
 -- What a statement does once its parts are evaluated; these are held as words. p is the statement's place.
-use Rattle.std.specs.Prelude.{ℕ, ◌≡◌, Bool, true, false, not, List, eqb}
+use Rattle.std.specs.Prelude.{ℕ, Bool, not, List, eqb}
 use Rattle.meaning.specs.Basics.{if◌then◌otherwise◌}
 use Rattle.machine.specs.Opcodes.{tag_in, extra_in, tag_assign, tag_return}
 use Rattle.machine.specs.Words.{kind_in, number_in, truth_in, packed, unpacked, kind_truth, kind_shape}
-use Rattle.machine.specs.Act.{raw, Out, done, stop, Act, ◌>>=◌, ◌>>◌, give, refuse, held}
+use Rattle.machine.specs.Act.{Act, ◌>>=◌, ◌>>◌, give, fail, refuse, held}
 use Rattle.machine.specs.Groups.{copy_shape}
 use Rattle.machine.specs.Variables.{usable, is_declared, declare, set_variable}
 use Rattle.machine.specs.declared.Flow.{Flow}
-use Rattle.machine.specs.declared.Flow.TheVariants.{Onward, Returned, Stopped}
-use Rattle.machine.specs.declared.Outcome.{Outcome}
-use Rattle.machine.specs.declared.Outcome.TheVariants as outcome
-
--- what the code answers, with the slices then
-unfoldable pub shown_flow : Flow → List ℕ → List ℕ → Out Flow
-shown_flow Onward ts ws = done Onward (raw ts ws)
-shown_flow (Returned v) ts ws = done (Returned v) (raw ts ws)
-shown_flow (Stopped n p) ts ws = stop n p (raw ts ws)
-
-unfoldable pub shown_test : Outcome → List ℕ → List ℕ → Out Bool
-shown_test outcome.Yes ts ws = done true (raw ts ws)
-shown_test outcome.No ts ws = done false (raw ts ws)
-shown_test (outcome.Stopped n p) ts ws = stop n p (raw ts ws)
-
--- it does what an act does, whatever the text store holds
-pub record Flows (before : List ℕ) (act : Act Flow) (flow : Flow) (after : List ℕ) : Type 0 where
-  pub equal : (ts : List ℕ) → shown_flow flow ts after ≡ act (raw ts before)
+use Rattle.machine.specs.declared.Flow.TheVariants.{Onward, Returned}
 
 -- ---- declarations
 unfoldable pub declaring : ℕ → ℕ → Act Flow
@@ -55,10 +38,5 @@ finishing g w k p =
     otherwise λ _. give Onward
 
 -- ---- tests
-unfoldable pub outcome_in : ℕ → ℕ → Outcome
-outcome_in k p =
-    if eqb (kind_in k) kind_truth then (λ _. if truth_in k then (λ _. outcome.Yes) otherwise λ _. outcome.No)
-    otherwise λ _. outcome.Stopped 20 p
-
 unfoldable pub saying : ℕ → ℕ → Act Bool
-saying k p r = shown_test (outcome_in k p) r.texts r.words
+saying k p = if eqb (kind_in k) kind_truth then (λ _. give (truth_in k)) otherwise λ _. fail 20 p

@@ -4,11 +4,11 @@ use Rattle.std.specs.Prelude.{ℕ, zero, suc, ◌+◌, ◌-◌, List, get_or, eq
 use Rattle.meaning.specs.Basics.{if◌then◌otherwise◌}
 use Rattle.machine.specs.Opcodes.{tag_in, size_in, number_in, library_in, callee_in, argument_root, tag_table, tag_call}
 use Rattle.machine.specs.declared.Value.{Value}
-use Rattle.machine.specs.declared.Value.TheVariants.{Nothing}
 use Rattle.machine.specs.Words.{packed}
 use Rattle.machine.specs.Layout.{arguments_held}
 use Rattle.machine.specs.Act.{Act, ◌>>=◌, ◌>>◌, give, refuse, load}
-use Rattle.machine.specs.Primaries.{leaf, sized, lacks_table, applied, push_word, called}
+use Rattle.machine.specs.Primaries.{leaf, sized, lacks_table, applied, called}
+use Rattle.machine.specs.Stack.{push}
 
 -- what does not change in a run
 pub record Setting : Type 0 where
@@ -29,18 +29,18 @@ Invoke = ℕ → ℕ → ℕ → Act Value
 
 -- ---- calls
 -- an argument, pushed
-unfoldable pub argument_of : Evaluator → ℕ → ℕ → Act Value
-argument_of inner y p = inner y p >>= λ v. push_word (packed v) p
+unfoldable pub argument_of : Evaluator → ℕ → ℕ → Act (Unit {0})
+argument_of inner y p = inner y p >>= λ v. push (packed v) p
 
 -- the root of the argument whose first word is at a; x if there is none
 abbrev pub argument_after : Setting → ℕ → ℕ → ℕ
 argument_after e a x = argument_root (get_or e.code a 0) a x
 
 -- the arguments from the one whose root is y up to x; there are fewer than there are words up to x, so the rounds do not run out
-unfoldable pub arguments_from : ℕ → Evaluator → Setting → ℕ → ℕ → ℕ → Act Value
-arguments_from zero inner e y x p = give Nothing
+unfoldable pub arguments_from : ℕ → Evaluator → Setting → ℕ → ℕ → ℕ → Act (Unit {0})
+arguments_from zero inner e y x p = give tt
 arguments_from (suc rounds) inner e y x p =
-    if ltb y x then (λ _. argument_of inner y p >> arguments_from rounds inner e (argument_after e (y + 1) x) x p) otherwise λ _. give Nothing
+    if ltb y x then (λ _. argument_of inner y p >> arguments_from rounds inner e (argument_after e (y + 1) x) x p) otherwise λ _. give tt
 
 -- by the call's word: a procedure of the library, of the program, or main, which is 20
 unfoldable pub invoked : Invoke → Setting → ℕ → ℕ → ℕ → Act Value

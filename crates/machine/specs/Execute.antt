@@ -13,7 +13,7 @@ use Rattle.machine.specs.Loops.{loop_over}
 use Rattle.machine.specs.Evaluate.{Setting, Evaluator}
 use Rattle.machine.specs.Effects.{declaring, finishing, saying}
 use Rattle.machine.specs.declared.Flow.{Flow}
-use Rattle.machine.specs.declared.Flow.TheVariants.{Onward, Returned, Stopped}
+use Rattle.machine.specs.declared.Flow.TheVariants.{Onward, Returned}
 
 -- ---- statements that hold no others
 -- a statement of one expression, which ends where the statement ends
@@ -40,7 +40,6 @@ test_of eval e y p = eval y p >>= λ v. saying (packed v) p
 unfoldable pub continue : Flow → Act Flow → Act Flow
 continue Onward k = k
 continue (Returned v) k = give (Returned v)
-continue (Stopped n p) k = fail n p
 
 -- how one statement is executed, by the place of its word
 abbrev pub Executor : Type 0

@@ -5,7 +5,7 @@ use Rattle.std.specs.Prelude.{ℕ, zero, suc, ◌+◌, ◌-◌, ◌*◌, ◌%◌
 use Rattle.meaning.specs.Basics.{if◌then◌otherwise◌}
 use Rattle.machine.specs.declared.Value.TheVariants.{Shape}
 use Rattle.machine.specs.declared.Flow.{Flow}
-use Rattle.machine.specs.declared.Flow.TheVariants.{Onward, Returned, Stopped}
+use Rattle.machine.specs.declared.Flow.TheVariants.{Onward, Returned}
 use Rattle.machine.specs.Words.{packed}
 use Rattle.machine.specs.Layout.{calls_used, loop_unit, shapes_granted, steps_granted, shape_place, path_place}
 use Rattle.machine.specs.Act.{Act, give, fail, store, held, count, ◌>>=◌, ◌>>◌}
@@ -90,7 +90,6 @@ turn body slot i = set_variable slot (packed (Shape i)) >> body
 unfoldable pub following : List ℕ → ℕ → Flow → Act Flow → Act Flow
 following g end Onward next = next
 following g end (Returned v) next = unmark_from g 0 end >> give (Returned v)
-following g end (Stopped m q) next = fail m q
 
 -- the figures in an own component that is a group, from the one found on; each turn counts a step at least, so the turns run out where the steps do
 unfoldable pub turns_from : ℕ → Act Flow → List ℕ → ℕ → ℕ → ℕ → ℕ → Act Flow

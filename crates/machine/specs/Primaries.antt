@@ -11,7 +11,7 @@ use Rattle.machine.specs.Words.{kind_in, kind_table, unpacked}
 use Rattle.machine.specs.Words as Words
 use Rattle.machine.specs.Layout.{arguments_held}
 use Rattle.machine.specs.Act.{Act, ◌>>=◌, ◌>>◌, give, refuse, load, new_table}
-use Rattle.machine.specs.Stack.{push, drop_to}
+use Rattle.machine.specs.Stack.{drop_to}
 use Rattle.machine.specs.Variables.{variable}
 use Rattle.machine.specs.Tables.{read_entry}
 use Rattle.machine.specs.Operate.{with_integer, operate}
@@ -38,10 +38,6 @@ lacks_table tag a = ltb tag first_operator && not (eqb (kind_in a) kind_table)
 unfoldable pub applied : List ℕ → List ℕ → ℕ → ℕ → ℕ → ℕ → Act Value
 applied program g tag p a b =
     if eqb tag tag_entry then (λ _. read_entry program g p (Words.number_in a) b) otherwise λ _. operate program g tag p (unpacked a) (unpacked b)
-
--- an argument, pushed
-unfoldable pub push_word : ℕ → ℕ → Act Value
-push_word w p = push w p >> give Nothing
 
 -- a library procedure on the arguments held from the one numbered base on, which are then dropped
 unfoldable pub called : List ℕ → ℕ → ℕ → ℕ → Act Value

@@ -6,10 +6,10 @@ use Rattle.machine.specs.Opcodes.{table_place, start_in, parameters_in, body_in,
 use Rattle.machine.specs.declared.Value.{Value}
 use Rattle.machine.specs.declared.Value.TheVariants.{Nothing}
 use Rattle.machine.specs.declared.Flow.{Flow}
-use Rattle.machine.specs.declared.Flow.TheVariants.{Onward, Returned, Stopped}
+use Rattle.machine.specs.declared.Flow.TheVariants.{Onward, Returned}
 use Rattle.machine.specs.Words.{packed}
 use Rattle.machine.specs.Layout.{declared, arguments_held, calls_used, running, loop_unit, frame, calls_granted, call_place, argument_place, stack_words}
-use Rattle.machine.specs.Act.{Act, ◌>>=◌, ◌>>◌, give, fail, refuse, load, store, spend}
+use Rattle.machine.specs.Act.{Act, ◌>>=◌, ◌>>◌, give, refuse, load, store, spend}
 use Rattle.machine.specs.Stack.{drop_to}
 use Rattle.machine.specs.Effects.{assigning}
 use Rattle.machine.specs.Evaluate.{Setting, Invoke}
@@ -93,7 +93,6 @@ resume base = do
 unfoldable pub result_of : Flow → Act Value
 result_of Onward = give Nothing
 result_of (Returned v) = give v
-result_of (Stopped n q) = fail n q
 
 -- how a body is executed, by the place of its first word and how many it has, is handed in
 unfoldable pub procedure_at : (ℕ → ℕ → Act Flow) → Setting → Invoke

@@ -98,20 +98,11 @@ pub struct Figure {
     pub text: u64,
 }
 
-// How a statement ends: the next one follows, the procedure returns, or a number and its place.
+// How a statement ends that does not stop the run: the next one follows, or the procedure returns.
 #[derive(Clone, Copy)]
 pub enum Flow {
     Onward,
     Returned(Value),
-    Stopped(u64, u64),
-}
-
-// Whether a test holds, or a number and its place.
-#[derive(Clone, Copy)]
-pub enum Outcome {
-    Yes,
-    No,
-    Stopped(u64, u64),
 }
 
 // ---- numbers by name, as specs/ has them

@@ -1,2 +1,1 @@
-pub mod Acts
 mod Laws

@@ -1,67 +1,72 @@
 // Constants and variables, and what an expression does once its parts are evaluated.
 #![tactic(auto)]
 
-ghost use Rattle.std.specs.Prelude.{◌*◌, ◌≤◌, ◌≡◌, length, eqb};
+ghost use Rattle.std.specs.Prelude.{ℕ, ◌*◌, ◌≤◌, ◌≡◌, List, length, eqb};
 ghost use Rattle.std.specs.Int.{w32};
 ghost use Rattle.std.proofs.Common.{to_z};
 ghost use Rattle.machine.specs.Opcodes.{tag_in, number_in};
 ghost use Rattle.machine.specs.declared.Value.TheVariants.{Integer, Text, Boolean};
-ghost use Rattle.machine.specs.declared.Answer.TheVariants.{Good};
-ghost use Rattle.machine.specs.Act.{raw, shown, Answers};
+ghost use Rattle.machine.specs.Act.{Does, DoesIn, out_of, shown};
 ghost use Rattle.machine.specs.Layout.{fixed_words, Room, Lent};
-ghost use Rattle.machine.specs.Primaries.{leaf, sized, lacks_table, applied, push_word, called};
+ghost use Rattle.machine.specs.Primaries.{leaf, sized, lacks_table, applied, called};
 
-use machine::{Answer, Value, kinds, tags};
+use machine::{Answer, Fault, Value, kinds, tags};
+
+// What tables, operators and the library answer, as they will.
+fn faulted(a: Answer) -> Result<Value, Fault>
+    ensures { (ts ws : List ℕ) → out_of result ts ws ≡ shown a ts ws }
+{
+    match a {
+        Answer::Good(v) => Ok(v),
+        Answer::Bad(n, q) => Err(Fault::Numbered(n, q)),
+    }
+}
 
 // ---- constants and variables, by the word of the code
-fn number(w: u64) -> Answer
-    ensures { result ≡ Good (Integer (to_z w32 (number_in w))) }
+fn number(w: u64) -> Value
+    ensures { result ≡ Integer (to_z w32 (number_in w)) }
 {
-    Answer::Good(Value::Integer(arithmetic::signed_of((w / 4294967296) as u32)))
+    Value::Integer(arithmetic::signed_of((w / 4294967296) as u32))
 }
 
-fn string(w: u64) -> Answer
-    ensures { result ≡ Good (Text (2 * number_in w)) }
+fn string(w: u64) -> Value
+    ensures { result ≡ Text (2 * number_in w) }
 {
-    Answer::Good(Value::Text(2 * (w / 4294967296)))
+    Value::Text(2 * (w / 4294967296))
 }
 
-fn truth(w: u64) -> Answer
-    ensures { result ≡ Good (Boolean (eqb (number_in w) 1)) }
+fn truth(w: u64) -> Value
+    ensures { result ≡ Boolean (eqb (number_in w) 1) }
 {
-    Answer::Good(Value::Boolean(w / 4294967296 == 1))
+    Value::Boolean(w / 4294967296 == 1)
 }
 
-pub fn leaf(words: &[u64], w: u64, p: u64) -> Answer
+pub fn leaf(words: &[u64], w: u64, p: u64) -> Result<Value, Fault>
     requires { fixed_words ≤ length words.now }
-    ensures { Answers words.now (leaf p w) result words.now }
+    ensures { Does words.now (leaf p w) result words.now }
 {
     match code::tag_of(w) {
-        tags::NUMBER => number(w),
-        tags::STRING => string(w),
-        tags::NONE => Answer::Good(Value::Nothing),
-        tags::TRUTH => truth(w),
-        _ => {
-            let r = frames::variables::variable(words, p, code::index_of(w));
-            r
-        }
+        tags::NUMBER => Ok(number(w)),
+        tags::STRING => Ok(string(w)),
+        tags::NONE => Ok(Value::Nothing),
+        tags::TRUTH => Ok(truth(w)),
+        _ => frames::variables::variable(words, p, code::index_of(w)),
     }
 }
 
 // ---- operands
 // A new table by the word of its size: 20 if that is no integer, 40 if it is negative.
-pub fn new_table(words: &mut [u64], a: u64, p: u64) -> Answer
+pub fn new_table(words: &mut [u64], a: u64, p: u64) -> Result<Value, Fault>
     requires { fixed_words ≤ length words.old }
-    ensures { Answers words.old (sized p a) result words.new }
+    ensures { Does words.old (sized p a) result words.new }
 {
     if values::kind_of(a) != kinds::INTEGER {
-        return Answer::Bad(20, p);
+        return Err(Fault::Misuse(p));
     }
     if arithmetic::is_negative(values::integer_of(a)) {
-        return Answer::Bad(40, p);
+        return Err(Fault::NegativeSize(p));
     }
-    let t = stores::counters::new_table(words);
-    Answer::Good(Value::Table(t))
+    Ok(Value::Table(stores::counters::new_table(words)))
 }
 
 // Whether the first part of a table read, by its word, is no table.
@@ -84,13 +89,12 @@ pub fn apply(
     p: u64,
     a: u64,
     b: u64,
-) -> Answer
+) -> Result<Value, Fault>
     requires { Lent grants.now texts.old words.old }
-    ensures { shown result texts.new words.new
-        ≡ applied program.now grants.now tag p a b (raw texts.old words.old) }
+    ensures { DoesIn texts.old words.old (applied program.now grants.now tag p a b) result texts.new words.new }
 {
     if tag == tags::ENTRY {
-        let r = tables::entries::read_entry(
+        return faulted(tables::entries::read_entry(
             program,
             texts,
             words,
@@ -98,36 +102,25 @@ pub fn apply(
             p,
             values::number_of(a),
             b,
-        );
-        return r;
+        ));
     }
-    let r = dispatch::operate(program, grants, texts, words, tag, p, a, b);
-    r
+    faulted(dispatch::operate(program, grants, texts, words, tag, p, a, b))
 }
 
 // ---- calls
-// An argument by its word, pushed.
-pub fn push_word(words: &mut [u64], w: u64, p: u64) -> Answer
-    requires { fixed_words ≤ length words.old }
-    ensures { Answers words.old (push_word w p) result words.new }
-{
-    if !stores::arguments::push(words, w) {
-        return Answer::Bad(20, p);
-    }
-    Answer::Good(Value::Nothing)
-}
-
 // A library procedure on the arguments held from the one numbered base on, which are then dropped.
-pub fn called(words: &mut [u64], grants: &[u64; 5], number: u64, p: u64, base: u64) -> Answer
+pub fn called(
+    words: &mut [u64],
+    grants: &[u64; 5],
+    number: u64,
+    p: u64,
+    base: u64,
+) -> Result<Value, Fault>
     requires { Room grants.now words.old }
-    ensures { Answers words.old (called grants.now number p base) result words.new }
+    ensures { Does words.old (called grants.now number p base) result words.new }
 {
     let n = arithmetic::lowered_word(stores::arguments::arguments_held(words), base);
-    match library::call_library(words, grants, number, p, base, n) {
-        Answer::Good(v) => {
-            stores::arguments::drop_to(words, base);
-            Answer::Good(v)
-        }
-        Answer::Bad(n, q) => Answer::Bad(n, q),
-    }
+    let v = faulted(library::call_library(words, grants, number, p, base, n))?;
+    stores::arguments::drop_to(words, base);
+    Ok(v)
 }

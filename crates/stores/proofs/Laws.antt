@@ -14,10 +14,11 @@ use mir.Val.{to_z, of_z, SFits}
 use mir.Facts.{to_z-of_z}
 use borrow.Author.Tests.{le-leb, lt-leb}
 use Rattle.meaning.specs.Integer.{bits}
-use Rattle.machine.specs.declared.Value.TheVariants.{Table}
-use Rattle.machine.specs.Layout.{steps_used, shapes_used, tables_made, arguments_held, calls_used}
-use Rattle.machine.specs.Layout.{steps_granted, shapes_granted, stack_words, argument_place, shape_place, component_place, path_place, Room}
-use Rattle.machine.specs.Act.{go_on, give, fail, refuse, load, store, spend, count, new_table, passed, Does, Passes, Pays, Gives, ◌>>=◌}
+use Rattle.machine.specs.declared.Value.TheVariants.{Table, Shape}
+use Rattle.machine.specs.Layout.{steps_used, shapes_used, tables_made, arguments_held, calls_used, steps_granted, shapes_granted, stack_words, argument_place, shape_place, component_place, path_place, Room}
+use Rattle.machine.specs.Act.{go_on, give, fail, refuse, load, store, spend, count, new_table, passed, Does, Passes, Pays, Gives, ◌>>=◌, out_of, shown, Answers}
+use Rattle.std.specs.Prelude.{Ok, Err}
+use Rattle.machine.specs.declared.Fault.TheVariants.{Misuse}
 use Rattle.machine.specs.declared.Figure.{Figure}
 use Rattle.machine.specs.Shapes.{first_word, pair_word, figure_laid, put_figure, low_number, high_number, figure_at, kind_group, destroyed_at, is_group_at, destroy}
 use Rattle.machine.specs.Groups.{component_at, followers_at, first_at, count_at}
@@ -122,14 +123,14 @@ module _ {ws g ws' : List ℕ} (n p : ℕ) (h : Does ws (spend shapes_used (shap
   shape_room at j l = omega (arith, (covered n p h).within, r.words)
 
 -- ---- arguments
-module _ (ws : List ℕ) (w : ℕ) where
-  pub push_full : stack_words ≤ get_or ws arguments_held 0 → Passes ws 20 (push w) false ws
-  unfolding push ◌>>=◌ go_on load store refuse fail give passed
-  push_full h = record { equal = λ p ts. rw (le-leb stack_words (get_or ws arguments_held 0) h) }
+module _ (ws : List ℕ) (w p : ℕ) where
+  pub push_full : stack_words ≤ get_or ws arguments_held 0 → Does ws (push w p) (Err (Misuse p)) ws
+  unfolding push ◌>>=◌ go_on load store refuse fail give out_of
+  push_full h = record { equal = λ ts. rw (le-leb stack_words (get_or ws arguments_held 0) h) }
 
-  pub pushes : get_or ws arguments_held 0 < stack_words → Passes ws 20 (push w) true (set (set ws (argument_place (get_or ws arguments_held 0)) w) arguments_held (get_or ws arguments_held 0 + 1))
-  unfolding push ◌>>=◌ go_on load store refuse fail give passed
-  pushes h = record { equal = λ p ts. rw (lt-leb stack_words (get_or ws arguments_held 0) h) }
+  pub pushes : get_or ws arguments_held 0 < stack_words → Does ws (push w p) (Ok tt) (set (set ws (argument_place (get_or ws arguments_held 0)) w) arguments_held (get_or ws arguments_held 0 + 1))
+  unfolding push ◌>>=◌ go_on load store refuse fail give out_of
+  pushes h = record { equal = λ ts. rw (lt-leb stack_words (get_or ws arguments_held 0) h) }
 
 pub drops : (ws : List ℕ) (base : ℕ) → Gives ws (drop_to base) tt (set ws arguments_held base)
 unfolding drop_to store

@@ -1,10 +1,10 @@
 // The arguments of calls under way.
 ghost use Rattle.std.specs.Prelude.{◌+◌, ◌≤◌, ◌≡◌, length, get_or};
 ghost use Rattle.machine.specs.Layout.{arguments_held, fixed_words, argument_place};
-ghost use Rattle.machine.specs.Act.{Passes, Gives};
+ghost use Rattle.machine.specs.Act.{Does, Gives};
 ghost use Rattle.machine.specs.Stack.{argument_at, push, drop_to};
 
-use machine::{counters, layout};
+use machine::{Fault, counters, layout};
 
 // How many arguments are held.
 pub fn arguments_held(words: &[u64]) -> u64
@@ -30,18 +30,18 @@ pub fn argument(words: &[u64], k: usize) -> u64
     words[layout::FIRST_ARGUMENT + k % layout::STACK_WORDS]
 }
 
-// Holds one more argument; not if there is no room.
-pub fn push(words: &mut [u64], w: u64) -> bool
+// Holds one more argument; fails at a place if there is no room.
+pub fn push(words: &mut [u64], w: u64, p: u64) -> Result<(), Fault>
     requires { fixed_words ≤ length words.old }
-    ensures { Passes words.old 20 (push w) result words.new }
+    ensures { Does words.old (push w p) result words.new }
 {
     let k = words[counters::ARGUMENTS];
     if layout::MOST_ARGUMENTS <= k {
-        return false;
+        return Err(Fault::Misuse(p));
     }
     words[layout::FIRST_ARGUMENT + k as usize % layout::STACK_WORDS] = w;
     words[counters::ARGUMENTS] = k + 1;
-    true
+    Ok(())
 }
 
 // Drops the arguments from the one numbered base on.

@@ -1,8 +1,12 @@
-use Rattle.effects.proofs.Laws.{declared_before, declared_now}
+use Rattle.machine.proofs.Acts.{goes, stops, given}
+use Rattle.machine.specs.Effects.{declaring}
+use Rattle.machine.specs.declared.Flow.TheVariants.{Onward}
 use Rattle.effects.proofs.declare.Goals as goal
 
-pub returns-then-not-declare : goal.returns-then-not-declare
-returns-then-not-declare c = search declared_before
+pub returns-in_err-declare : goal.returns-in_err-declare
+unfolding declaring
+returns-in_err-declare c = stops _ c.in_err-declare.ensures c.from_residual.ensures.1
 
 pub returns : goal.returns
-returns c = search declared_now
+unfolding declaring
+returns c = goes _ c.in_ok-declare.ensures (given Onward)

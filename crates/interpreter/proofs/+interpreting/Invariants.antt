@@ -1,4 +1,4 @@
-use Prim.Native.Nat.{◌+◌, ◌-◌, ◌*◌, ◌<◌}
+use Prim.Native.Nat.{◌+◌, ◌-◌, ◌*◌}
 use Rattle.interpreter.proofs.ExpressionLaws.{Pushing}
 use Rattle.interpreter.proofs.StatementLaws.{Looping}
 use Rattle.interpreter.proofs.StatementLaws.{Following}
@@ -69,39 +69,23 @@ abbrev pub decreases-when : goal.decreases-when
 decreases-when l = 8 * l.fuel + 2
 
 abbrev pub invariant-call-loop-y : goal.invariant-call-loop-y
-invariant-call-loop-y l = Pushing l.program l.code l.grants l.fuel l.initial.texts l.initial.words l.w l.x l.p l.base l.texts l.words l.y
+invariant-call-loop-y l = Pushing (setting l.program l.code l.grants) l.fuel l.initial.texts l.initial.words l.w l.x l.p l.base l.texts l.words l.y
 
 abbrev pub decreases-call-loop-y : goal.decreases-call-loop-y
 decreases-call-loop-y l = l.x - l.y
 
-abbrev pub invariant-inside-loop-turns : goal.invariant-inside-loop-turns
-invariant-inside-loop-turns l =
-    Turning (statement_at l.fuel (setting l.program l.code l.grants) l.b) l.grants l.fuel l.b l.initial.texts l.initial.words l.p l.slot l.end l.initial.found l.initial.turns l.texts l.words l.found l.turns
+abbrev pub invariant-inside-loop : goal.invariant-inside-loop
+invariant-inside-loop l =
+    Turning (statement_at l.fuel (setting l.program l.code l.grants) l.b) l.grants l.fuel l.b l.initial.texts l.initial.words l.p l.slot l.end l.initial.found l.turns l.texts l.words l.found l.counter
 
-abbrev pub decreases-inside-loop-turns : goal.decreases-inside-loop-turns
-decreases-inside-loop-turns l = l.turns
+abbrev pub invariant-own-loop-k : goal.invariant-own-loop-k
+invariant-own-loop-k l = Owning (statement_at l.fuel (setting l.program l.code l.grants) l.b) l.grants l.fuel l.b l.initial.texts l.initial.words l.p l.slot l.first (l.first + l.n) l.texts l.words l.k
 
-abbrev pub invariant-own-loop-n : goal.invariant-own-loop-n
-invariant-own-loop-n l =
-    Owning (statement_at l.fuel (setting l.program l.code l.grants) l.b) l.grants l.fuel l.b l.initial.texts l.initial.words l.p l.slot l.unit l.initial.k l.initial.n l.texts l.words l.k l.n
+abbrev pub invariant-procedure-loop : goal.invariant-procedure-loop
+invariant-procedure-loop l = Following (setting l.program l.code l.grants) l.fuel l.initial.texts l.initial.words l.a l.end l.rounds l.texts l.words l.at l.counter
 
-abbrev pub decreases-own-loop-n : goal.decreases-own-loop-n
-decreases-own-loop-n l = l.n
+abbrev pub invariant-repeat-loop : goal.invariant-repeat-loop
+invariant-repeat-loop l = Looping (setting l.program l.code l.grants) l.fuel l.initial.texts l.initial.words l.y l.p l.texts l.words l.turns l.counter
 
-abbrev pub invariant-procedure-loop-left : goal.invariant-procedure-loop-left
-invariant-procedure-loop-left l = Following l.program l.code l.grants l.fuel l.initial.texts l.initial.words l.a l.end l.rounds l.texts l.words l.at l.left
-
-abbrev pub decreases-procedure-loop-left : goal.decreases-procedure-loop-left
-decreases-procedure-loop-left l = l.left
-
-abbrev pub invariant-repeat-loop-turns : goal.invariant-repeat-loop-turns
-invariant-repeat-loop-turns l = Looping l.program l.code l.grants l.fuel l.initial.texts l.initial.words l.y l.p l.texts l.words l.turns
-
-abbrev pub decreases-repeat-loop-turns : goal.decreases-repeat-loop-turns
-decreases-repeat-loop-turns l = l.turns
-
-abbrev pub invariant-statements-loop-left : goal.invariant-statements-loop-left
-invariant-statements-loop-left l = Following l.program l.code l.grants l.fuel l.initial.texts l.initial.words l.a l.end l.rounds l.texts l.words l.at l.left
-
-abbrev pub decreases-statements-loop-left : goal.decreases-statements-loop-left
-decreases-statements-loop-left l = l.left
+abbrev pub invariant-statements-loop : goal.invariant-statements-loop
+invariant-statements-loop l = Following (setting l.program l.code l.grants) l.fuel l.initial.texts l.initial.words l.a l.end l.rounds l.texts l.words l.at l.counter

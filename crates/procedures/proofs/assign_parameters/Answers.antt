@@ -1,6 +1,6 @@
 use Rattle.procedures.proofs.Laws.{still_room, assign_next, assign_stops, all_assigned}
+use Rattle.machine.proofs.Acts.{last}
 use Rattle.stores.proofs.Turns.{turns_first}
-use Prim.Native.Nat.{◌-◌}
 use native.Mathlib.Omega.{arith}
 use Rattle.procedures.proofs.assign_parameters.Goals as goal
 
@@ -16,17 +16,11 @@ bounds-words-place_above c = omega (arith, c.requires.words, c.loop-k.invariant.
 pub assign-requires : goal.assign-requires
 assign-requires c = search still_room
 
-pub returns-in-Stopped : goal.returns-in-Stopped
-returns-in-Stopped c = search assign_stops
-
-pub overflow_add-k : goal.overflow_add-k
-overflow_add-k c = omega arith
-
-pub loop-k-smaller : goal.loop-k-smaller
-loop-k-smaller c = omega arith
+pub returns-in_err-assign : goal.returns-in_err-assign
+returns-in_err-assign c = last (assign_stops _ _ _ _ _ _ _ c.loop-k.invariant (omega arith) _ c.place_above.ensures _ _ c.in_err-assign.ensures) c.from_residual.ensures.1
 
 pub loop-k-preserved : goal.loop-k-preserved
-loop-k-preserved c = search (assign_next, c.in_default.not-Stopped)
+loop-k-preserved c = assign_next _ _ _ _ _ _ _ c.loop-k.invariant (omega arith) _ c.place_above.ensures _ _ c.in_ok-assign.ensures (omega arith)
 
 pub returns : goal.returns
 returns c = search all_assigned
