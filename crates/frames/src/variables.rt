@@ -3,7 +3,7 @@ ghost use Rattle.std.specs.Prelude.{◌+◌, ◌≤◌, ◌≡◌, length, get_o
 ghost use Rattle.machine.specs.Words.{unpacked};
 ghost use Rattle.machine.specs.Layout.{declared, frame, fixed_words, argument_place};
 ghost use Rattle.machine.specs.Act.{Does, Gives};
-ghost use Rattle.machine.specs.Variables.{is_dead, with_word, with_order, number_of, holding_at, holding_of, holding, is_declared, variable, set_variable, set_order};
+ghost use Rattle.machine.specs.Variables.{is_dead, usable, with_word, with_order, number_of, holding_at, holding_of, holding, is_declared, variable, set_variable, set_order};
 ghost use Rattle.machine.specs.Variables.{declare, declare_once};
 
 use machine::{Fault, Value, counters, frame_words, kinds, layout};

@@ -337,18 +337,7 @@ fn update(
     let u = expression(program, code, grants, texts, words, fuel, b, p)?;
     let key = values::pack(u);
     let z = expression(program, code, grants, texts, words, fuel, y, p)?;
-    let number = tables::entries::store_entry(
-        program,
-        texts,
-        words,
-        grants,
-        t,
-        key,
-        values::pack(z),
-    );
-    if number != 0 {
-        return Err(Fault::Numbered(number, p));
-    }
+    tables::entries::store_entry(program, texts, words, grants, p, t, key, values::pack(z))?;
     Ok(Flow::Onward)
 }
 

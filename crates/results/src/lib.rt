@@ -6,21 +6,11 @@ ghost use Rattle.std.specs.Int.{w32};
 ghost use Rattle.std.proofs.Common.{to_z};
 ghost use Rattle.machine.specs.Opcodes.{tag_in, number_in};
 ghost use Rattle.machine.specs.declared.Value.TheVariants.{Integer, Text, Boolean};
-ghost use Rattle.machine.specs.Act.{Does, DoesIn, out_of, shown};
+ghost use Rattle.machine.specs.Act.{Does, DoesIn};
 ghost use Rattle.machine.specs.Layout.{fixed_words, Room, Lent};
 ghost use Rattle.machine.specs.Primaries.{leaf, sized, lacks_table, applied, called};
 
-use machine::{Answer, Fault, Value, kinds, tags};
-
-// What tables, operators and the library answer, as they will.
-fn faulted(a: Answer) -> Result<Value, Fault>
-    ensures { (ts ws : List ℕ) → out_of result ts ws ≡ shown a ts ws }
-{
-    match a {
-        Answer::Good(v) => Ok(v),
-        Answer::Bad(n, q) => Err(Fault::Numbered(n, q)),
-    }
-}
+use machine::{Fault, Value, kinds, tags};
 
 // ---- constants and variables, by the word of the code
 fn number(w: u64) -> Value
@@ -94,7 +84,7 @@ pub fn apply(
     ensures { DoesIn texts.old words.old (applied program.now grants.now tag p a b) result texts.new words.new }
 {
     if tag == tags::ENTRY {
-        return faulted(tables::entries::read_entry(
+        return tables::entries::read_entry(
             program,
             texts,
             words,
@@ -102,9 +92,9 @@ pub fn apply(
             p,
             values::number_of(a),
             b,
-        ));
+        );
     }
-    faulted(dispatch::operate(program, grants, texts, words, tag, p, a, b))
+    dispatch::operate(program, grants, texts, words, tag, p, a, b)
 }
 
 // ---- calls
@@ -120,7 +110,7 @@ pub fn called(
     ensures { Does words.old (called grants.now number p base) result words.new }
 {
     let n = arithmetic::lowered_word(stores::arguments::arguments_held(words), base);
-    let v = faulted(library::call_library(words, grants, number, p, base, n))?;
+    let v = library::call_library(words, grants, number, p, base, n)?;
     stores::arguments::drop_to(words, base);
     Ok(v)
 }

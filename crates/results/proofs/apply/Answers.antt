@@ -1,9 +1,8 @@
-use mathlib.Core.Path.{◌∙◌}
 use Rattle.results.proofs.Laws.{is_read, is_operator}
 use Rattle.results.proofs.apply.Goals as goal
 
 pub returns-then-tag-eq-ENTRY : goal.returns-then-tag-eq-ENTRY
-returns-then-tag-eq-ENTRY c = is_read _ _ _ _ _ _ _ _ _ _ _ _ c.if-tag-eq-ENTRY.true c.number_of.ensures record { equal = c.faulted.ensures _ _ ∙ c.read_entry.ensures }
+returns-then-tag-eq-ENTRY c = is_read _ _ _ _ _ _ _ _ _ _ _ _ c.if-tag-eq-ENTRY.true c.number_of.ensures c.read_entry.ensures
 
 pub returns : goal.returns
-returns c = is_operator _ _ _ _ _ _ _ _ _ _ _ c.if-tag-eq-ENTRY.false record { equal = c.faulted-2.ensures _ _ ∙ c.operate.ensures }
+returns c = is_operator _ _ _ _ _ _ _ _ _ _ _ c.if-tag-eq-ENTRY.false c.operate.ensures
