@@ -28,7 +28,7 @@ pub fn lex(program: &[u8], tokens: &mut [u64]) -> Result<usize, Stray>
     lex_by(&classes, program, tokens)
 }
 
-// The same, by the table of classes.
+// The same, by the table of classes. A token is as long as it is, so no `for` counts the places.
 fn lex_by(classes: &[u8; 256], program: &[u8], tokens: &mut [u64]) -> Result<usize, Stray>
     requires classes_value { classes.now ≡ class_table }
     requires program_len_bound { length program.now ≤ 32768 }

@@ -10,7 +10,7 @@ pub fn clear_words(words: &mut [u64])
     words.fill(0);
 }
 
-// Zeros in a whole slice of bytes.
+// Zeros in a whole slice of bytes. One generic function for both would say no more than `fill` does.
 pub fn clear_bytes(bytes: &mut [u8])
     ensures { bytes.new ≡ replicate (length bytes.old) 0 }
 {
