@@ -12,7 +12,7 @@ use lib.ListN.{length, get_or, take, drop, length-append, length-take, length-dr
 use lib.Seq.{take-suc, take_all}
 use Rattle.meaning.specs.Basics.{bytes, span, laid_over}
 use Rattle.writing.specs.Placed.{laid_at, WroteAt}
-use Rattle.writing.proofs.Laying.{length_at, saturated_small}
+use Rattle.writing.proofs.Laying.{saturated_small}
 use Rattle.writing.proofs.Laying.{then as joined}
 use Rattle.numerals.proofs.Spans.{span_le}
 use Rattle.excerpts.specs.Excerpts.{glyph_of, glyphs_of, optional, in_line, shown_line, mark_line, excerpt_of, Around}
@@ -69,9 +69,6 @@ unfolding glyphs_of
 show_none m bs at d h = record { few = omega arith; wrote = wrote_nothing h }
 
 module _ (m : Bool) (bs : List ℕ) (at : ℕ) (d₀ d : List ℕ) (next i : ℕ) (g : Showing m bs at d₀ d next i) where
-  pub show_kept : length d ≡ length d₀
-  show_kept = rw g.wrote.laid (length_at at (glyphs_of m (take i bs)) d₀)
-
   pub show_more : (b r : ℕ) (d' : List ℕ) → length d₀ < 2 ^ 64 → i < length bs → b ≡ glyph_of m (get_or bs i 0) → WroteAt next (b ∷ []) d d' r
       → Showing m bs at d₀ d' r (i + 1)
   show_more b r d' l h e w = record { few = omega arith; wrote = rw (glyphs_more m bs i h) (joined l g.wrote (rw e at w)) }

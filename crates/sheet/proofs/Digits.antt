@@ -3,7 +3,7 @@
 use Prim.Native.Nat.{ℕ, ◌+◌, ◌-◌, ◌*◌, ◌^◌, ◌≤◌, ◌<◌}
 use mathlib.Core.Bool.{false}
 use mathlib.Core.List.{List}
-use mathlib.Core.Path.{◌≡◌, refl}
+use mathlib.Core.Path.{◌≡◌}
 use native.Mathlib.Nat.{pow-suc}
 use native.Mathlib.Numerals.{add-one}
 use native.Mathlib.Omega.{arith}
@@ -27,9 +27,6 @@ pub record Valued (x : List ℕ) (v i : ℕ) : Type 0 where
   pub few : i ≤ length x
   pub rest : numeral_from v (drop i x) ≡ numeral x
   pub small : v + 23 ≤ 23 * 10 ^ i
-
-pub value_none : (x : List ℕ) → Valued x 0 0
-value_none x = record { few = omega arith; rest = refl; small = omega arith }
 
 module _ (x : List ℕ) (v i : ℕ) (g : Valued x v i) where
   pub value_more : (d : ℕ) → get_or x i 0 < 256 → i < length x → d ≡ get_or x i 0 - 48 → Valued x (10 * v + d) (i + 1)

@@ -12,7 +12,6 @@ use lib.ListN.{length, get_or, take, drop}
 use mir.Syntax.{w32}
 use mir.Val.{SFits, to_z}
 use Rattle.meaning.specs.Basics.{bytes, if◌then◌otherwise◌}
-use Rattle.meaning.specs.Byte.{is_letter, is_digit, is_name_part}
 use Rattle.meaning.specs.Picture.{decimal}
 use Rattle.machine.specs.Opcodes.{tag_in, number_in, place_in, extra_in, first_operator, tag_number, tag_string, tag_none, tag_truth, tag_entry}
 use Rattle.machine.specs.Opcodes.{tag_concatenate, tag_add, tag_subtract, tag_multiply, tag_divide, tag_remainder, tag_shift_right, tag_shift_left, tag_equal, tag_unequal, tag_greater}
@@ -74,36 +73,6 @@ module _ (program tokens : List ℕ) (w tag : ℕ) (i : tag ≡ tag_in w) {at r 
       → WroteAt at (name_text program tokens slot) d e r → WroteAt at (leaf_text program tokens w) d e r
   unfolding leaf_text if◌then◌otherwise◌
   name_leaf slot j k l m n p = rw (← i, ne_eqb _ _ j, ne_eqb _ _ k, ne_eqb _ _ l, ne_eqb _ _ m, ← n) p
-
--- ---- bytes
-module _ (b : ℕ) where
-  pub digit_part : 48 ≤ b → b ≤ 57 → true ≡ is_name_part b
-  unfolding is_name_part is_letter is_digit
-  digit_part h k = rw (lt-leb 65 b (omega arith), lt-leb 97 b (omega arith), le-leb 48 b h, le-leb b 57 k)
-
-  pub upper_part : 65 ≤ b → b ≤ 90 → true ≡ is_name_part b
-  unfolding is_name_part is_letter is_digit
-  upper_part h k = rw (le-leb 65 b h, le-leb b 90 k)
-
-  pub lower_part : 97 ≤ b → b ≤ 122 → true ≡ is_name_part b
-  unfolding is_name_part is_letter is_digit
-  lower_part h k = rw (le-leb 65 b (omega arith), lt-leb b 90 (omega arith), le-leb 97 b h, le-leb b 122 k)
-
-  pub below_digits : b < 48 → false ≡ is_name_part b
-  unfolding is_name_part is_letter is_digit
-  below_digits h = rw (lt-leb 65 b (omega arith), lt-leb 97 b (omega arith), lt-leb 48 b h)
-
-  pub below_upper : 57 < b → b < 65 → false ≡ is_name_part b
-  unfolding is_name_part is_letter is_digit
-  below_upper h k = rw (lt-leb 65 b k, lt-leb 97 b (omega arith), le-leb 48 b (omega arith), lt-leb b 57 h)
-
-  pub below_lower : 90 < b → b < 97 → false ≡ is_name_part b
-  unfolding is_name_part is_letter is_digit
-  below_lower h k = rw (le-leb 65 b (omega arith), lt-leb b 90 h, lt-leb 97 b k, le-leb 48 b (omega arith), lt-leb b 57 (omega arith))
-
-  pub above_lower : 122 < b → false ≡ is_name_part b
-  unfolding is_name_part is_letter is_digit
-  above_lower h = rw (le-leb 65 b (omega arith), lt-leb b 90 (omega arith), le-leb 97 b (omega arith), lt-leb b 122 h, le-leb 48 b (omega arith), lt-leb b 57 (omega arith))
 
 -- ---- parentheses
 module _ (outer inner : ℕ) where
