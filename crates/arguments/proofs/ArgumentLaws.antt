@@ -10,13 +10,18 @@ use lib.IntN.{ℤ}
 use lib.Signed.{mag}
 use mir.Syntax.{w32}
 use mir.Val.{to_z}
+use Rattle.std.specs.Prelude.{Result, Ok, Err}
+use Rattle.std.specs.Result.{IsErrAnd}
+use Rattle.machine.specs.declared.Fault.{Fault}
+use Rattle.machine.specs.declared.Fault.TheVariants.{Misuse}
+use Rattle.machine.proofs.Acts.{stops, onward, carried, given}
 use Rattle.machine.specs.Words.{number_in, handle_in, unpacked}
 use Rattle.machine.specs.declared.Figure.{Figure}
-use Rattle.machine.specs.Act.{raw, done, stop, Act, go_on, ◌>>=◌, give, fail, refuse, passed, Passes}
+use Rattle.machine.specs.Act.{raw, stop, Act, ◌>>=◌, out_of, Does}
 use Rattle.machine.specs.Layout.{stack_words}
 use Rattle.machine.specs.Stack.{argument_at}
 use Rattle.machine.specs.Shapes.{is_group_at, figure_at}
-use Rattle.machine.specs.Variables.{is_dead, usable}
+use Rattle.machine.specs.Variables.{usable}
 use Rattle.values.proofs.Held.{held, back}
 use Rattle.operators.proofs.KindLaws.{shape_or}
 use Rattle.machine.specs.Arguments.{all_usable}
@@ -102,66 +107,57 @@ module _ (ws : List ℕ) (base : ℕ) {b : Bool} (e : b ≡ is_figure ws base 0)
   text_second h q = q ∙ rw (← e, not-false b h)
 
 -- ---- what is asked of all of them
-abbrev pub Question : Type 0
-Question = ℕ → ℕ → ℕ → Act (Unit {0})
-
 -- k of n arguments are asked: what is left to ask comes to what was to be asked at first
-pub record Asking (ask : Question) (ws : List ℕ) (base n k : ℕ) : Type 0 where
-  pub few : k ≤ n
-  pub rest : (p : ℕ) (ts : List ℕ) → ask p base n (raw ts ws) ≡ ask p (base + k) (n - k) (raw ts ws)
+pub record Asking (ask : ℕ → ℕ → Act (Unit {0})) (ws : List ℕ) (base n k : ℕ) : Type 0 where
+  pub rest : (ts : List ℕ) → ask base n (raw ts ws) ≡ ask (base + k) (n - k) (raw ts ws)
 
-module _ (ask : Question) (ws : List ℕ) (base n : ℕ) where
+one_more : {n k : ℕ} → k < n → n - k ≡ suc (n - (k + 1))
+one_more h = omega arith
+
+module _ (ask : ℕ → ℕ → Act (Unit {0})) (ws : List ℕ) (base n : ℕ) where
   pub ask_first : Asking ask ws base n 0
   ask_first =
       let i : base + 0 ≡ base = omega arith in
       let j : n - 0 ≡ n = omega arith in
-      record { few = omega arith; rest = λ p ts. rw (i, j) }
+      record { rest = λ ts. rw (i, j) }
 
-  ask_last : (k number : ℕ) → Asking ask ws base n k → n ≤ k → ((p b : ℕ) (ts : List ℕ) → ask p b 0 (raw ts ws) ≡ done tt (raw ts ws)) → Passes ws number (λ p. ask p base n) true ws
-  unfolding passed
-  ask_last k number g h z = let q : n - k ≡ 0 = omega (arith, g.few) in record { equal = λ p ts. sym (g.rest p ts ∙ rw q (z p (base + k) ts)) }
+  ask_last : (k : ℕ) → Asking ask ws base n k → n ≤ k → ((b : ℕ) → Does ws (ask b 0) (Ok tt) ws) → Does ws (ask base n) (Ok tt) ws
+  ask_last k g h z = let q : n - k ≡ 0 = omega arith in carried {act' = ask (base + k) 0} {ws' = ws} (λ ts. rw q at (g.rest ts)) (z (base + k))
 
 -- whether one is a destroyed shape
-module _ (ws : List ℕ) (base n : ℕ) where
-  module _ (k w : ℕ) (b : Bool) (g : Asking all_usable ws base n k) (h : k < n) (e : w ≡ argument_at ws (base + k)) (d : b ≡ is_dead ws (unpacked w)) where
-    pub ask_dead : b ≡ true → Passes ws 30 (λ p. all_usable p base n) false ws
-    unfolding all_usable usable ◌>>=◌ go_on refuse fail passed
-    ask_dead t =
-        let q : n - k ≡ suc (n - (k + 1)) = omega arith in
-        record { equal = λ p ts. sym (g.rest p ts ∙ rw (q, ← e, ← d, t)) }
+module _ (ws : List ℕ) (p base n : ℕ) where
+  module _ (k : ℕ) (g : Asking (all_usable p) ws base n k) (h : k < n) {w : ℕ} (e : w ≡ argument_at ws (base + k)) where
+    asked_next : (ts : List ℕ) → all_usable p base n (raw ts ws) ≡ (usable p (unpacked w) >>= λ _. all_usable p (base + (k + 1)) (n - (k + 1))) (raw ts ws)
+    unfolding all_usable ◌>>=◌
+    asked_next ts = let s : base + k + 1 ≡ base + (k + 1) = omega arith in g.rest ts ∙ rw (one_more h, e, s) refl
 
-    pub ask_more : b ≡ false → Asking all_usable ws base n (k + 1)
-    unfolding all_usable usable ◌>>=◌ go_on refuse give
-    ask_more t =
-        let q : n - k ≡ suc (n - (k + 1)) = omega arith in
-        let s : base + k + 1 ≡ base + (k + 1) = omega arith in
-        record { few = omega arith; rest = λ p ts. g.rest p ts ∙ rw (q, ← e, ← d, t, s) }
+    pub ask_dead : {r : Result (Unit {0}) Fault} {x : Fault} → Does ws (usable p (unpacked w)) (Err x) ws → IsErrAnd r (λ y. y ≡ x) → Does ws (all_usable p base n) r ws
+    ask_dead d i = carried asked_next (stops _ d i)
 
-  pub ask_all : (k : ℕ) → Asking all_usable ws base n k → n ≤ k → Passes ws 30 (λ p. all_usable p base n) true ws
-  unfolding all_usable give
-  ask_all k g h = ask_last all_usable ws base n k 30 g h (λ p b ts. refl)
+    pub ask_more : Does ws (usable p (unpacked w)) (Ok tt) ws → Asking (all_usable p) ws base n (k + 1)
+    ask_more d = record { rest = λ ts. asked_next ts ∙ onward _ ts d }
+
+  pub ask_all : (k : ℕ) → Asking (all_usable p) ws base n k → n ≤ k → Does ws (all_usable p base n) (Ok tt) ws
+  unfolding all_usable
+  ask_all k g h = ask_last (all_usable p) ws base n k g h (λ b. given tt)
 
 -- whether one is no shape
-module _ (ws : List ℕ) (base n : ℕ) where
-  module _ (k : ℕ) (b : Bool) (g : Asking all_shapes ws base n k) (h : k < n) (e : b ≡ is_kind ws base k 6) where
-    one_asked : (p m : ℕ) (ts : List ℕ) → all_shapes p (base + k) (suc m) (raw ts ws)
+module _ (ws : List ℕ) (p base n : ℕ) where
+  module _ (k : ℕ) {b : Bool} (g : Asking (all_shapes p) ws base n k) (h : k < n) (e : b ≡ is_kind ws base k 6) where
+    one_asked : (m : ℕ) (ts : List ℕ) → all_shapes p (base + k) (suc m) (raw ts ws)
         ≡ cond (is_kind ws base k 6) (all_shapes p (base + (k + 1)) m (raw ts ws)) (stop 20 p (raw ts ws))
     unfolding all_shapes is_kind
-    one_asked p m ts =
+    one_asked m ts =
         let s : base + k + 1 ≡ base + (k + 1) = omega arith in
         rw (← s) (shape_or p (argument_at ws (base + k)) (raw ts ws) (λ i. all_shapes p (base + k + 1) m))
 
-    pub shape_missing : not b ≡ true → Passes ws 20 (λ p. all_shapes p base n) false ws
-    unfolding passed
-    shape_missing t =
-        let q : n - k ≡ suc (n - (k + 1)) = omega arith in
-        record { equal = λ p ts. sym (g.rest p ts ∙ rw (q, one_asked p (n - (k + 1)) ts, ← e, not-true b t)) }
+    pub shape_missing : not b ≡ true → Does ws (all_shapes p base n) (Err (Misuse p)) ws
+    unfolding out_of
+    shape_missing t = record { equal = λ ts. sym (g.rest ts ∙ rw (one_more h, one_asked (n - (k + 1)) ts, ← e, not-true b t)) }
 
-    pub shape_given : not b ≡ false → Asking all_shapes ws base n (k + 1)
-    shape_given t =
-        let q : n - k ≡ suc (n - (k + 1)) = omega arith in
-        record { few = omega arith; rest = λ p ts. g.rest p ts ∙ rw (q, one_asked p (n - (k + 1)) ts, ← e, not-false b t) }
+    pub shape_given : not b ≡ false → Asking (all_shapes p) ws base n (k + 1)
+    shape_given t = record { rest = λ ts. g.rest ts ∙ rw (one_more h, one_asked (n - (k + 1)) ts, ← e, not-false b t) }
 
-  pub shapes_all : (k : ℕ) → Asking all_shapes ws base n k → n ≤ k → Passes ws 20 (λ p. all_shapes p base n) true ws
-  unfolding all_shapes give
-  shapes_all k g h = ask_last all_shapes ws base n k 20 g h (λ p b ts. refl)
+  pub shapes_all : (k : ℕ) → Asking (all_shapes p) ws base n k → n ≤ k → Does ws (all_shapes p base n) (Ok tt) ws
+  unfolding all_shapes
+  shapes_all k g h = ask_last (all_shapes p) ws base n k g h (λ b. given tt)

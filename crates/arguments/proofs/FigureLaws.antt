@@ -5,39 +5,38 @@ use mathlib.Core.List.{List}
 use borrow.Author.Tests.{ne_eqb}
 use lib.IntN.{ℤ, pos, ◌+ℤ◌}
 use lib.Signed.{mag}
+use mir.Syntax.{w32}
+use mir.Val.{SFits}
+use mir.Facts.{to_z-of_z}
 use Rattle.meaning.specs.Basics.{if◌then◌otherwise◌}
 use Rattle.meaning.specs.Integer.{sum, half}
 use Rattle.machine.specs.declared.Figure.{Figure}
 use Rattle.values.proofs.Held.{held, back, back_to}
 use Rattle.machine.specs.Arguments.{centre_x, centre_y, connecting, text_on}
-use Rattle.arguments.specs.Given.{integer_at, handle_at, given_figure, drawn_figure, text_figure, connecting_figure, label_figure}
+use Rattle.arguments.specs.Given.{centre, integer_at, handle_at, given_figure, drawn_figure, text_figure, connecting_figure, label_figure}
 
 -- ---- centres
+module _ (kind : ℕ) {x z : ℤ} (i : SFits w32 x) (j : SFits w32 z) {m : ℤ} (h : mag m < 2 ^ 31) where
+  pub line_centre : kind ≡ 0 → m ≡ half (held x +ℤ held z) → held m ≡ centre kind x z
+  unfolding centre if◌then◌otherwise◌
+  line_centre k e = back_to h e ∙ rw (k, to_z-of_z i, to_z-of_z j)
+
+  pub box_centre : kind ≡ 2 → m ≡ sum (held x) (half (held z)) → held m ≡ centre kind x z
+  unfolding centre if◌then◌otherwise◌
+  box_centre k e = back_to h e ∙ rw (k, to_z-of_z i, to_z-of_z j)
+
+pub other_centre : (kind : ℕ) {x : ℤ} (z : ℤ) → SFits w32 x → (kind ≡ 0 → ⊥) → (kind ≡ 2 → ⊥) → held x ≡ centre kind x z
+unfolding centre if◌then◌otherwise◌
+other_centre kind z i k l = to_z-of_z i ∙ rw (ne_eqb _ _ k, ne_eqb _ _ l)
+
 module _ (f : Figure) {m : ℤ} (h : mag m < 2 ^ 31) where
-  pub line_x : f.kind ≡ 0 → mag f.a < 2 ^ 31 → mag f.c < 2 ^ 31 → m ≡ half (held f.a +ℤ held f.c) → held m ≡ centre_x f
-  unfolding centre_x if◌then◌otherwise◌
-  line_x k i j e = back_to h e ∙ rw (k, back {r = f.a} i, back {r = f.c} j)
+  pub centre_is_x : mag f.a < 2 ^ 31 → mag f.c < 2 ^ 31 → m ≡ centre f.kind (held f.a) (held f.c) → held m ≡ centre_x f
+  unfolding centre centre_x
+  centre_is_x i j e = back_to h e ∙ rw (back {r = f.a} i, back {r = f.c} j)
 
-  pub line_y : f.kind ≡ 0 → mag f.b < 2 ^ 31 → mag f.d < 2 ^ 31 → m ≡ half (held f.b +ℤ held f.d) → held m ≡ centre_y f
-  unfolding centre_y if◌then◌otherwise◌
-  line_y k i j e = back_to h e ∙ rw (k, back {r = f.b} i, back {r = f.d} j)
-
-  pub box_x : f.kind ≡ 2 → mag f.a < 2 ^ 31 → mag f.c < 2 ^ 31 → m ≡ sum (held f.a) (half (held f.c)) → held m ≡ centre_x f
-  unfolding centre_x if◌then◌otherwise◌
-  box_x k i j e = back_to h e ∙ rw (k, back {r = f.a} i, back {r = f.c} j)
-
-  pub box_y : f.kind ≡ 2 → mag f.b < 2 ^ 31 → mag f.d < 2 ^ 31 → m ≡ sum (held f.b) (half (held f.d)) → held m ≡ centre_y f
-  unfolding centre_y if◌then◌otherwise◌
-  box_y k i j e = back_to h e ∙ rw (k, back {r = f.b} i, back {r = f.d} j)
-
-module _ (f : Figure) (k : f.kind ≡ 0 → ⊥) (l : f.kind ≡ 2 → ⊥) where
-  pub other_x : mag f.a < 2 ^ 31 → held f.a ≡ centre_x f
-  unfolding centre_x if◌then◌otherwise◌
-  other_x h = back {r = f.a} h ∙ rw (ne_eqb _ _ k, ne_eqb _ _ l)
-
-  pub other_y : mag f.b < 2 ^ 31 → held f.b ≡ centre_y f
-  unfolding centre_y if◌then◌otherwise◌
-  other_y h = back {r = f.b} h ∙ rw (ne_eqb _ _ k, ne_eqb _ _ l)
+  pub centre_is_y : mag f.b < 2 ^ 31 → mag f.d < 2 ^ 31 → m ≡ centre f.kind (held f.b) (held f.d) → held m ≡ centre_y f
+  unfolding centre centre_y
+  centre_is_y i j e = back_to h e ∙ rw (back {r = f.b} i, back {r = f.d} j)
 
 -- ---- figures
 pub connecting_is : (f g : Figure) {x y z w : ℤ} → x ≡ centre_x f → mag x < 2 ^ 31 → y ≡ centre_y f → mag y < 2 ^ 31 → z ≡ centre_x g → mag z < 2 ^ 31

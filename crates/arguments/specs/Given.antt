@@ -1,7 +1,9 @@
 -- What the code for library procedures asks of a call's arguments.
-use Rattle.std.specs.Prelude.{ℕ, ◌+◌, Bool, not, ◌&&◌, List, ℤ, pos, eqb}
+use Rattle.std.specs.Prelude.{ℕ, ◌+◌, Bool, not, ◌&&◌, List, ℤ, pos, ◌+ℤ◌, eqb}
 use Rattle.std.specs.Int.{w32}
 use Rattle.std.proofs.Common.{to_z}
+use Rattle.meaning.specs.Basics.{if◌then◌otherwise◌}
+use Rattle.meaning.specs.Integer.{sum, half}
 use Rattle.machine.specs.Words.{kind_in, number_in, handle_in}
 use Rattle.machine.specs.Stack.{argument_at}
 use Rattle.machine.specs.declared.Figure.{Figure}
@@ -47,6 +49,13 @@ unfoldable pub figure_and_text : List ℕ → ℕ → Bool
 figure_and_text ws base = is_figure ws base 0 && is_kind ws base 1 2
 
 -- ---- the figures that procedures make of them
+-- the middle of what begins at x and goes to z, or is z wide
+unfoldable pub centre : ℕ → ℤ → ℤ → ℤ
+centre kind x z =
+    if eqb kind 0 then (λ _. half (x +ℤ z))
+    otherwise λ _. if eqb kind 2 then (λ _. sum x (half z))
+    otherwise λ _. x
+
 unfoldable pub drawn_figure : List ℕ → ℕ → ℕ → Figure
 drawn_figure ws kind base = figure kind (integer_at ws base 0) (integer_at ws base 1) (integer_at ws base 2) (integer_at ws base 3) 0
 

@@ -2,32 +2,31 @@
 ghost use Rattle.std.specs.Prelude.{◌≤◌, ◌≡◌, length};
 ghost use Rattle.machine.specs.Layout.{fixed_words};
 ghost use Rattle.machine.specs.Arguments.{centre_x, centre_y, connecting, text_on};
-ghost use Rattle.arguments.specs.Given.{drawn_figure, text_figure, connecting_figure, label_figure};
+ghost use Rattle.arguments.specs.Given.{centre, drawn_figure, text_figure, connecting_figure, label_figure};
 
 use machine::{Figure, shapes};
+
+// The middle of what begins at x and goes to z, or is z wide, by the figure's kind.
+fn centre(kind: u64, x: i32, z: i32) -> i32
+    ensures { result ≡ centre kind x z }
+{
+    match kind {
+        shapes::LINE => arithmetic::middle(x, z),
+        shapes::BOX => arithmetic::corner_middle(x, z),
+        _ => x,
+    }
+}
 
 pub fn centre_x(f: Figure) -> i32
     ensures { result ≡ centre_x f }
 {
-    if f.kind == shapes::LINE {
-        return arithmetic::middle(f.a, f.c);
-    }
-    if f.kind == shapes::BOX {
-        return arithmetic::corner_middle(f.a, f.c);
-    }
-    f.a
+    centre(f.kind, f.a, f.c)
 }
 
 pub fn centre_y(f: Figure) -> i32
     ensures { result ≡ centre_y f }
 {
-    if f.kind == shapes::LINE {
-        return arithmetic::middle(f.b, f.d);
-    }
-    if f.kind == shapes::BOX {
-        return arithmetic::corner_middle(f.b, f.d);
-    }
-    f.b
+    centre(f.kind, f.b, f.d)
 }
 
 pub fn drawn_figure(words: &[u64], kind: u64, base: u64) -> Figure
@@ -39,7 +38,7 @@ pub fn drawn_figure(words: &[u64], kind: u64, base: u64) -> Figure
     let z = crate::integer_at(words, base, 2);
     let w = crate::integer_at(words, base, 3);
     Figure {
-        kind: kind,
+        kind,
         a: x,
         b: y,
         c: z,

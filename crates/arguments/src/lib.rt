@@ -5,13 +5,13 @@ pub mod given;
 
 ghost use Rattle.std.specs.Prelude.{◌+◌, ◌≤◌, ◌≡◌, length};
 ghost use Rattle.machine.specs.Layout.{fixed_words};
-ghost use Rattle.machine.specs.Act.{Passes};
+ghost use Rattle.machine.specs.Act.{Does};
 ghost use Rattle.machine.specs.Stack.{argument_at};
 ghost use Rattle.machine.specs.Arguments.{all_usable};
 ghost use Rattle.machine.specs.Library.{all_shapes};
 ghost use Rattle.arguments.specs.Given.{is_kind, are_kinds, four_integers, point_and_text, is_figure, two_figures, figure_and_text, integer_at, handle_at, shape_at, given_figure};
 
-use machine::{Figure, kinds, layout};
+use machine::{Fault, Figure, kinds, layout};
 
 // The word of argument i.
 pub fn argument(words: &[u64], base: u64, i: u64) -> u64
@@ -120,32 +120,26 @@ pub fn figure_and_text(words: &[u64], base: u64) -> bool
     is_kind(words, base, 1, kinds::TEXT)
 }
 
-// Whether all arguments are shapes.
-pub fn all_shapes(words: &[u64], base: u64, n: u64) -> bool
+// All arguments have to be shapes.
+pub fn all_shapes(words: &[u64], p: u64, base: u64, n: u64) -> Result<(), Fault>
     requires { fixed_words ≤ length words.now }
-    ensures { Passes words.now 20 (λ p. all_shapes p base n) result words.now }
+    ensures { Does words.now (all_shapes p base n) result words.now }
 {
-    let mut k = 0;
-    while k < n {
+    for k in 0..n {
         if !is_kind(words, base, k, kinds::SHAPE) {
-            return false;
+            return Err(Fault::Misuse(p));
         }
-        k += 1;
     }
-    true
+    Ok(())
 }
 
-// Whether no argument is a destroyed shape.
-pub fn all_usable(words: &[u64], base: u64, n: u64) -> bool
+// No argument may be a destroyed shape.
+pub fn all_usable(words: &[u64], p: u64, base: u64, n: u64) -> Result<(), Fault>
     requires { fixed_words ≤ length words.now }
-    ensures { Passes words.now 30 (λ p. all_usable p base n) result words.now }
+    ensures { Does words.now (all_usable p base n) result words.now }
 {
-    let mut k = 0;
-    while k < n {
-        if frames::variables::is_dead(words, argument(words, base, k)) {
-            return false;
-        }
-        k += 1;
+    for k in 0..n {
+        frames::variables::usable(words, argument(words, base, k), p)?;
     }
-    true
+    Ok(())
 }

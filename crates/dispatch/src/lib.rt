@@ -4,11 +4,11 @@
 ghost use Rattle.std.specs.Prelude.{◌≡◌};
 ghost use Rattle.machine.specs.Words.{unpacked};
 ghost use Rattle.machine.specs.Layout.{Room, Lent};
-ghost use Rattle.machine.specs.Act.{raw, shown};
+ghost use Rattle.machine.specs.Act.{DoesIn};
 ghost use Rattle.machine.specs.Operate.{joined, operate};
 ghost use Rattle.operators.specs.Parts.{Calculates, Mixes, Operates};
 
-use machine::{Answer, kinds, tags};
+use machine::{Fault, Value, kinds, tags};
 use operators::{equality, integers, shapes};
 
 // Two texts, one behind the other.
@@ -20,18 +20,18 @@ fn join(
     p: u64,
     a: u64,
     b: u64,
-) -> Answer
+) -> Result<Value, Fault>
     requires { Lent grants.now texts.old words.old }
-    ensures { shown result texts.new words.new ≡ joined program.now grants.now p (unpacked a) (unpacked b)
-        (raw texts.old words.old) }
+    ensures { DoesIn texts.old words.old
+        (joined program.now grants.now p (unpacked a) (unpacked b)) result texts.new words.new }
 {
     if a % 8 != kinds::TEXT {
-        return Answer::Bad(20, p);
+        return Err(Fault::Misuse(p));
     }
     if b % 8 != kinds::TEXT {
-        return Answer::Bad(20, p);
+        return Err(Fault::Misuse(p));
     }
-    let r = texts::join_texts(
+    texts::join_texts(
         program,
         texts,
         words,
@@ -39,30 +39,35 @@ fn join(
         p,
         values::handle_of(a),
         values::handle_of(b),
-    );
-    r
+    )
 }
 
 // A shape and an integer; 20 for any other values that are not both integers.
-fn calculate(words: &mut [u64], grants: &[u64; 5], tag: u64, p: u64, a: u64, b: u64) -> Answer
+fn calculate(
+    words: &mut [u64],
+    grants: &[u64; 5],
+    tag: u64,
+    p: u64,
+    a: u64,
+    b: u64,
+) -> Result<Value, Fault>
     requires { Room grants.now words.old }
     ensures { Calculates grants.now words.old tag p a b result words.new }
 {
     if a % 8 != kinds::SHAPE {
-        return Answer::Bad(20, p);
+        return Err(Fault::Misuse(p));
     }
     if b % 8 != kinds::INTEGER {
-        return Answer::Bad(20, p);
+        return Err(Fault::Misuse(p));
     }
-    let r = shapes::on_shape(
+    shapes::on_shape(
         words,
         grants,
         tag,
         p,
         values::number_of(a),
         values::integer_of(b),
-    );
-    r
+    )
 }
 
 // Values that are not both integers, neither of them a destroyed shape.
@@ -75,27 +80,15 @@ fn on_usable(
     p: u64,
     a: u64,
     b: u64,
-) -> Answer
+) -> Result<Value, Fault>
     requires { Lent grants.now texts.old words.old }
     ensures { Mixes program.now grants.now texts.old words.old tag p a b result texts.new words.new }
 {
     match tag {
-        tags::CONCATENATE => {
-            let r = join(program, grants, texts, words, p, a, b);
-            r
-        }
-        tags::EQUAL => {
-            let r = equality::equal(program, texts, words, grants, p, a, b);
-            r
-        }
-        tags::UNEQUAL => {
-            let r = equality::unequal(program, texts, words, grants, p, a, b);
-            r
-        }
-        _ => {
-            let r = calculate(words, grants, tag, p, a, b);
-            r
-        }
+        tags::CONCATENATE => join(program, grants, texts, words, p, a, b),
+        tags::EQUAL => equality::equal(program, texts, words, grants, p, a, b),
+        tags::UNEQUAL => equality::unequal(program, texts, words, grants, p, a, b),
+        _ => calculate(words, grants, tag, p, a, b),
     }
 }
 
@@ -109,18 +102,13 @@ fn on_mixed(
     p: u64,
     a: u64,
     b: u64,
-) -> Answer
+) -> Result<Value, Fault>
     requires { Lent grants.now texts.old words.old }
     ensures { Operates program.now grants.now texts.old words.old tag p a b result texts.new words.new }
 {
-    if frames::variables::is_dead(words, a) {
-        return Answer::Bad(30, p);
-    }
-    if frames::variables::is_dead(words, b) {
-        return Answer::Bad(30, p);
-    }
-    let r = on_usable(program, grants, texts, words, tag, p, a, b);
-    r
+    frames::variables::usable(words, a, p)?;
+    frames::variables::usable(words, b, p)?;
+    on_usable(program, grants, texts, words, tag, p, a, b)
 }
 
 // An operator, by its tag, on two values at a place.
@@ -133,14 +121,13 @@ pub fn operate(
     p: u64,
     a: u64,
     b: u64,
-) -> Answer
+) -> Result<Value, Fault>
     requires { Lent grants.now texts.old words.old }
-    ensures { shown result texts.new words.new ≡ operate program.now grants.now tag p (unpacked a) (unpacked b)
-        (raw texts.old words.old) }
+    ensures { DoesIn texts.old words.old
+        (operate program.now grants.now tag p (unpacked a) (unpacked b)) result texts.new words.new }
 {
     if operators::both_integers(a, b) {
         return integers::on_integers(tag, p, values::integer_of(a), values::integer_of(b));
     }
-    let r = on_mixed(program, grants, texts, words, tag, p, a, b);
-    r
+    on_mixed(program, grants, texts, words, tag, p, a, b)
 }

@@ -2,11 +2,11 @@
 ghost use Rattle.std.specs.Prelude.{◌+◌, ◌≤◌, ◌≡◌, length, get_or};
 ghost use Rattle.machine.specs.Words.{unpacked};
 ghost use Rattle.machine.specs.Layout.{declared, frame, fixed_words, argument_place};
-ghost use Rattle.machine.specs.Act.{Answers, Passes, Gives};
-ghost use Rattle.machine.specs.Variables.{is_dead, with_word, with_order, number_of, holding_at, holding_of, holding, is_declared, variable, set_variable, set_order};
+ghost use Rattle.machine.specs.Act.{Answers, Does, Passes, Gives};
+ghost use Rattle.machine.specs.Variables.{is_dead, usable, with_word, with_order, number_of, holding_at, holding_of, holding, is_declared, variable, set_variable, set_order};
 ghost use Rattle.machine.specs.Variables.{declare, declare_once};
 
-use machine::{Answer, counters, frame_words, kinds, layout};
+use machine::{Answer, Fault, counters, frame_words, kinds, layout};
 use stores::{arguments, shapes};
 
 // Whether a word's value is a destroyed shape.
@@ -17,6 +17,16 @@ pub fn is_dead(words: &[u64], w: u64) -> bool
         return false;
     }
     shapes::is_destroyed(words, values::number_of(w))
+}
+
+// Fails at a place if a word's value is a destroyed shape.
+pub fn usable(words: &[u64], w: u64, p: u64) -> Result<(), Fault>
+    ensures { Does words.now (usable p (unpacked w)) result words.now }
+{
+    if is_dead(words, w) {
+        return Err(Fault::Destroyed(p));
+    }
+    Ok(())
 }
 
 // ---- the words of a frame

@@ -1,6 +1,6 @@
 -- Library procedures.
 use Prim.Native.Nat.{ℕ, ◌+◌, ◌^◌, ◌≤◌, ◌<◌}
-use mathlib.Core.Path.{◌≡◌, ◌∙◌, refl, ap, sym}
+use mathlib.Core.Path.{◌≡◌, ◌∙◌, refl, sym}
 use mathlib.Core.Bool.{Bool, true, false, not, ◌&&◌, cond}
 use mathlib.Core.List.{List}
 use native.Mathlib.Omega.{arith}
@@ -13,19 +13,19 @@ use mir.Val.{to_z}
 use Rattle.meaning.specs.Basics.{if◌then◌otherwise◌}
 use Rattle.machine.specs.declared.Value.{Value}
 use Rattle.machine.specs.declared.Value.TheVariants.{Integer, Nothing}
-use Rattle.machine.specs.declared.Answer.{Answer}
-use Rattle.machine.specs.declared.Answer.TheVariants.{Good, Bad}
+use Rattle.std.specs.Prelude.{Result, Ok, Err}
+use Rattle.machine.specs.declared.Fault.{Fault}
+use Rattle.machine.specs.declared.Fault.TheVariants.{Misuse}
+use Rattle.machine.proofs.Acts.{goes, taken}
 use Rattle.machine.specs.Words.{kind_in, number_in, handle_in, unpacked}
 use Rattle.machine.specs.declared.Figure.{Figure}
-use Rattle.machine.specs.Act.{Raw, raw, Out, done, stop, Act, go_on, ◌>>=◌, give, fail, refuse, held, shown, passed, Answers, Passes}
+use Rattle.machine.specs.Act.{Raw, raw, done, stop, Act, go_on, ◌>>=◌, give, fail, refuse, held, out_of, Does}
 use Rattle.machine.specs.Stack.{argument_at}
 use Rattle.machine.specs.Layout.{argument_place}
 use Rattle.machine.specs.Shapes.{is_group_at, figure_at, new_shape}
 use Rattle.machine.specs.Groups.{destroy_all}
-use Rattle.walks.specs.Walks.{Ends}
 use Rattle.groups.specs.Making.{grouping}
 use Rattle.machine.specs.Variables.{clear_scene}
-use Rattle.stores.proofs.Acts.{after_pass, after_refusal}
 use Rattle.machine.specs.Operate.{with_integer, with_text}
 use Rattle.values.proofs.Held.{back_to}
 use Rattle.values.proofs.Held as held
@@ -124,91 +124,81 @@ module _ (g ts ws : List ℕ) (p base : ℕ) where
 
 module _ (g ws : List ℕ) (act : Act Value) (p : ℕ) (ok b : Bool) (f : Figure) (e : b ≡ ok)
     (h : (ts : List ℕ) → act (raw ts ws) ≡ cond ok (new_shape g p f (raw ts ws)) (stop 20 p (raw ts ws))) where
-  refused : not b ≡ true → Answers ws act (Bad 20 p) ws
-  unfolding shown
+  refused : not b ≡ true → Does ws act (Err (Misuse p)) ws
+  unfolding out_of
   refused t = record { equal = λ ts. sym (h ts ∙ rw (← e, not-true b t)) }
 
-  made : (r : Answer) (f' : Figure) (ws' : List ℕ) → not b ≡ false → f' ≡ f → Answers ws (new_shape g p f') r ws' → Answers ws act r ws'
+  made : (r : Result Value Fault) (f' : Figure) (ws' : List ℕ) → not b ≡ false → f' ≡ f → Does ws (new_shape g p f') r ws' → Does ws act r ws'
   made r f' ws' t q a = record { equal = λ ts. a.equal ts ∙ sym (h ts ∙ rw (← e, not-false b t, q)) }
 
 module _ (ws g : List ℕ) (p base n : ℕ) where
-  pub draw_count : (kind : ℕ) → (n ≡ 4 → ⊥) → Answers ws (drawn g kind p base n) (Bad 20 p) ws
-  unfolding drawn ◌>>=◌ go_on refuse fail shown
+  pub draw_count : (kind : ℕ) → (n ≡ 4 → ⊥) → Does ws (drawn g kind p base n) (Err (Misuse p)) ws
+  unfolding drawn ◌>>=◌ go_on refuse fail out_of
   draw_count kind h = record { equal = λ ts. rw (ne_eqb _ _ h) }
 
-  pub draw_kinds : (kind : ℕ) {b : Bool} → n ≡ 4 → b ≡ four_integers ws base → not b ≡ true → Answers ws (drawn g kind p base n) (Bad 20 p) ws
+  pub draw_kinds : (kind : ℕ) {b : Bool} → n ≡ 4 → b ≡ four_integers ws base → not b ≡ true → Does ws (drawn g kind p base n) (Err (Misuse p)) ws
   draw_kinds kind {b} k e h = rw k (refused g ws (drawn g kind p base 4) p (four_integers ws base) b (drawn_figure ws kind base) e (λ ts. drawn_by g ts ws p base kind) h)
 
-  pub draw_made : (kind : ℕ) {b : Bool} {f : Figure} {r : Answer} {ws' : List ℕ} → n ≡ 4 → b ≡ four_integers ws base → not b ≡ false → f ≡ drawn_figure ws kind base
-      → Answers ws (new_shape g p f) r ws' → Answers ws (drawn g kind p base n) r ws'
+  pub draw_made : (kind : ℕ) {b : Bool} {f : Figure} {r : Result Value Fault} {ws' : List ℕ} → n ≡ 4 → b ≡ four_integers ws base → not b ≡ false → f ≡ drawn_figure ws kind base
+      → Does ws (new_shape g p f) r ws' → Does ws (drawn g kind p base n) r ws'
   draw_made kind {b} {f} {r} {ws'} k e h q a = rw k (made g ws (drawn g kind p base 4) p (four_integers ws base) b (drawn_figure ws kind base) e (λ ts. drawn_by g ts ws p base kind) r f ws' h q a)
 
-  pub text_count : (n ≡ 3 → ⊥) → Answers ws (drawn_text g p base n) (Bad 20 p) ws
-  unfolding drawn_text ◌>>=◌ go_on refuse fail shown
+  pub text_count : (n ≡ 3 → ⊥) → Does ws (drawn_text g p base n) (Err (Misuse p)) ws
+  unfolding drawn_text ◌>>=◌ go_on refuse fail out_of
   text_count h = record { equal = λ ts. rw (ne_eqb _ _ h) }
 
-  pub text_kinds : {b : Bool} → n ≡ 3 → b ≡ point_and_text ws base → not b ≡ true → Answers ws (drawn_text g p base n) (Bad 20 p) ws
+  pub text_kinds : {b : Bool} → n ≡ 3 → b ≡ point_and_text ws base → not b ≡ true → Does ws (drawn_text g p base n) (Err (Misuse p)) ws
   text_kinds {b} k e h = rw k (refused g ws (drawn_text g p base 3) p (point_and_text ws base) b (text_figure ws base) e (λ ts. text_by g ts ws p base) h)
 
-  pub text_made : {b : Bool} {f : Figure} {r : Answer} {ws' : List ℕ} → n ≡ 3 → b ≡ point_and_text ws base → not b ≡ false → f ≡ text_figure ws base
-      → Answers ws (new_shape g p f) r ws' → Answers ws (drawn_text g p base n) r ws'
+  pub text_made : {b : Bool} {f : Figure} {r : Result Value Fault} {ws' : List ℕ} → n ≡ 3 → b ≡ point_and_text ws base → not b ≡ false → f ≡ text_figure ws base
+      → Does ws (new_shape g p f) r ws' → Does ws (drawn_text g p base n) r ws'
   text_made {b} {f} {r} {ws'} k e h q a = rw k (made g ws (drawn_text g p base 3) p (point_and_text ws base) b (text_figure ws base) e (λ ts. text_by g ts ws p base) r f ws' h q a)
 
-  pub connect_count : (n ≡ 2 → ⊥) → Answers ws (connected g p base n) (Bad 20 p) ws
-  unfolding connected ◌>>=◌ go_on refuse fail shown
+  pub connect_count : (n ≡ 2 → ⊥) → Does ws (connected g p base n) (Err (Misuse p)) ws
+  unfolding connected ◌>>=◌ go_on refuse fail out_of
   connect_count h = record { equal = λ ts. rw (ne_eqb _ _ h) }
 
-  pub connect_kinds : {b : Bool} → n ≡ 2 → b ≡ two_figures ws base → not b ≡ true → Answers ws (connected g p base n) (Bad 20 p) ws
+  pub connect_kinds : {b : Bool} → n ≡ 2 → b ≡ two_figures ws base → not b ≡ true → Does ws (connected g p base n) (Err (Misuse p)) ws
   connect_kinds {b} k e h = rw k (refused g ws (connected g p base 2) p (two_figures ws base) b (connecting_figure ws base) e (λ ts. connected_by g ts ws p base) h)
 
-  pub connect_made : {b : Bool} {f : Figure} {r : Answer} {ws' : List ℕ} → n ≡ 2 → b ≡ two_figures ws base → not b ≡ false → f ≡ connecting_figure ws base
-      → Answers ws (new_shape g p f) r ws' → Answers ws (connected g p base n) r ws'
+  pub connect_made : {b : Bool} {f : Figure} {r : Result Value Fault} {ws' : List ℕ} → n ≡ 2 → b ≡ two_figures ws base → not b ≡ false → f ≡ connecting_figure ws base
+      → Does ws (new_shape g p f) r ws' → Does ws (connected g p base n) r ws'
   connect_made {b} {f} {r} {ws'} k e h q a = rw k (made g ws (connected g p base 2) p (two_figures ws base) b (connecting_figure ws base) e (λ ts. connected_by g ts ws p base) r f ws' h q a)
 
-  pub label_count : (n ≡ 2 → ⊥) → Answers ws (labelled g p base n) (Bad 20 p) ws
-  unfolding labelled ◌>>=◌ go_on refuse fail shown
+  pub label_count : (n ≡ 2 → ⊥) → Does ws (labelled g p base n) (Err (Misuse p)) ws
+  unfolding labelled ◌>>=◌ go_on refuse fail out_of
   label_count h = record { equal = λ ts. rw (ne_eqb _ _ h) }
 
-  pub label_kinds : {b : Bool} → n ≡ 2 → b ≡ figure_and_text ws base → not b ≡ true → Answers ws (labelled g p base n) (Bad 20 p) ws
+  pub label_kinds : {b : Bool} → n ≡ 2 → b ≡ figure_and_text ws base → not b ≡ true → Does ws (labelled g p base n) (Err (Misuse p)) ws
   label_kinds {b} k e h = rw k (refused g ws (labelled g p base 2) p (figure_and_text ws base) b (label_figure ws base) e (λ ts. labelled_by g ts ws p base) h)
 
-  pub label_made : {b : Bool} {f : Figure} {r : Answer} {ws' : List ℕ} → n ≡ 2 → b ≡ figure_and_text ws base → not b ≡ false → f ≡ label_figure ws base
-      → Answers ws (new_shape g p f) r ws' → Answers ws (labelled g p base n) r ws'
+  pub label_made : {b : Bool} {f : Figure} {r : Result Value Fault} {ws' : List ℕ} → n ≡ 2 → b ≡ figure_and_text ws base → not b ≡ false → f ≡ label_figure ws base
+      → Does ws (new_shape g p f) r ws' → Does ws (labelled g p base n) r ws'
   label_made {b} {f} {r} {ws'} k e h q a = rw k (made g ws (labelled g p base 2) p (figure_and_text ws base) b (label_figure ws base) e (λ ts. labelled_by g ts ws p base) r f ws' h q a)
 
 -- ---- a centre, a shape destroyed, the scene cleared, a group
--- behind an act that ends with a number nothing is given
-module _ (ws ws' : List ℕ) (act : ℕ → Act (Unit {0})) (r : ℕ) (h : Ends ws act r ws') (p : ℕ) (ts : List ℕ) where
-  all_done : r ≡ 0 → (act p >>= λ _. give Nothing) (raw ts ws) ≡ done Nothing (raw ts ws')
-  unfolding ◌>>=◌ go_on passed give
-  all_done z = ap (λ (o : Out (Unit {0})). go_on o (λ _. give Nothing)) (sym (h.equal p ts)) ∙ rw z
-
-  broken_off : (r ≡ 0 → ⊥) → (act p >>= λ _. give Nothing) (raw ts ws) ≡ stop r p (raw ts ws')
-  unfolding ◌>>=◌ go_on passed
-  broken_off z = ap (λ (o : Out (Unit {0})). go_on o (λ _. give Nothing)) (sym (h.equal p ts)) ∙ rw (ne_eqb r 0 z)
-
 module _ (ws : List ℕ) (p base n : ℕ) where
   module _ (f : Figure → ℤ) where
-    pub coordinate_count : (n ≡ 1 → ⊥) → Answers ws (coordinate f p base n) (Bad 20 p) ws
-    unfolding coordinate ◌>>=◌ go_on refuse fail shown
+    pub coordinate_count : (n ≡ 1 → ⊥) → Does ws (coordinate f p base n) (Err (Misuse p)) ws
+    unfolding coordinate ◌>>=◌ go_on refuse fail out_of
     coordinate_count h = record { equal = λ ts. rw (ne_eqb _ _ h) }
 
     coordinate_by : (ts : List ℕ) → coordinate f p base 1 (raw ts ws) ≡ cond (is_figure ws base 0) (done (Integer (f (given_figure ws base 0))) (raw ts ws)) (stop 20 p (raw ts ws))
     unfolding coordinate ◌>>=◌ go_on refuse give is_figure is_kind given_figure shape_at
     coordinate_by ts = rw (first_is base) (figure_or p (raw ts ws) (argument_at ws base) _)
 
-    pub coordinate_kind : {b : Bool} → n ≡ 1 → b ≡ is_figure ws base 0 → not b ≡ true → Answers ws (coordinate f p base n) (Bad 20 p) ws
-    unfolding shown
+    pub coordinate_kind : {b : Bool} → n ≡ 1 → b ≡ is_figure ws base 0 → not b ≡ true → Does ws (coordinate f p base n) (Err (Misuse p)) ws
+    unfolding out_of
     coordinate_kind {b} k e h = rw k (record { equal = λ ts. sym (coordinate_by ts ∙ rw (← e, not-true b h)) })
 
     pub coordinate_given : {b : Bool} {s : Figure} {m : ℤ} → n ≡ 1 → b ≡ is_figure ws base 0 → not b ≡ false → s ≡ given_figure ws base 0 → m ≡ f s → mag m < 2 ^ 31
-        → Answers ws (coordinate f p base n) (Good (Integer (held.held m))) ws
-    unfolding shown
+        → Does ws (coordinate f p base n) (Ok (Integer (held.held m))) ws
+    unfolding out_of
     coordinate_given {b} k e h q m l = rw k (record { equal = λ ts. sym (coordinate_by ts ∙ rw (← e, not-false b h, back_to l m, q)) })
 
 module _ (g ws : List ℕ) (p base n : ℕ) where
-  pub destroy_count : (n ≡ 1 → ⊥) → Answers ws (destroyed g p base n) (Bad 20 p) ws
-  unfolding destroyed ◌>>=◌ go_on refuse fail shown
+  pub destroy_count : (n ≡ 1 → ⊥) → Does ws (destroyed g p base n) (Err (Misuse p)) ws
+  unfolding destroyed ◌>>=◌ go_on refuse fail out_of
   destroy_count h = record { equal = λ ts. rw (ne_eqb _ _ h) }
 
   destroyed_by : (ts : List ℕ) → destroyed g p base 1 (raw ts ws)
@@ -217,60 +207,38 @@ module _ (g ws : List ℕ) (p base n : ℕ) where
   destroyed_by ts = rw (first_is base) (shape_or p (argument_at ws base) (raw ts ws) _)
 
   module _ {b : Bool} (k : n ≡ 1) (e : b ≡ is_kind ws base 0 6) where
-    pub destroy_kind : not b ≡ true → Answers ws (destroyed g p base n) (Bad 20 p) ws
-    unfolding shown
+    pub destroy_kind : not b ≡ true → Does ws (destroyed g p base n) (Err (Misuse p)) ws
+    unfolding out_of
     destroy_kind h = rw k (record { equal = λ ts. sym (destroyed_by ts ∙ rw (← e, not-true b h)) })
 
-    module _ (h : not b ≡ false) {i r : ℕ} {ws' : List ℕ} (q : i ≡ shape_at ws base 0) (d : Ends ws (λ p. destroy_all g p i) r ws') where
-      pub destroy_done : r ≡ 0 → Answers ws (destroyed g p base n) (Good Nothing) ws'
-      unfolding shown
-      destroy_done z = rw k (record { equal = λ ts. sym (destroyed_by ts ∙ rw (← e, not-false b h, ← q) (all_done ws ws' (λ p. destroy_all g p i) r d p ts z)) })
+    pub destroys : b ≡ true → {i : ℕ} {r : Result Value Fault} {ws' : List ℕ} → i ≡ shape_at ws base 0 → Does ws (destroy_all g p i >>= λ _. give Nothing) r ws' → Does ws (destroyed g p base n) r ws'
+    destroys h q d = rw k (record { equal = λ ts. (rw q at d).equal ts ∙ sym (destroyed_by ts ∙ rw (← e, h)) })
 
-      pub destroy_stops : (r ≡ 0 → ⊥) → Answers ws (destroyed g p base n) (Bad r p) ws'
-      unfolding shown
-      destroy_stops z = rw k (record { equal = λ ts. sym (destroyed_by ts ∙ rw (← e, not-false b h, ← q) (broken_off ws ws' (λ p. destroy_all g p i) r d p ts z)) })
-
-  pub clear_count : (n ≡ 0 → ⊥) → Answers ws (clearing g p n) (Bad 20 p) ws
-  unfolding clearing ◌>>=◌ go_on refuse fail shown
+  pub clear_count : (n ≡ 0 → ⊥) → Does ws (clearing g p n) (Err (Misuse p)) ws
+  unfolding clearing ◌>>=◌ go_on refuse fail out_of
   clear_count h = record { equal = λ ts. rw (ne_eqb _ _ h) }
 
-  module _ (k : n ≡ 0) {r : ℕ} {ws' : List ℕ} (d : Ends ws (clear_scene g) r ws') where
-    pub clear_done : r ≡ 0 → Answers ws (clearing g p n) (Good Nothing) ws'
-    unfolding clearing ◌>>=◌ go_on refuse give shown
-    clear_done z = rw k (record { equal = λ ts. sym (all_done ws ws' (clear_scene g) r d p ts z) })
+  pub clears : n ≡ 0 → {r : Result Value Fault} {ws' : List ℕ} → Does ws (clear_scene g p >>= λ _. give Nothing) r ws' → Does ws (clearing g p n) r ws'
+  unfolding clearing ◌>>=◌ go_on refuse give
+  clears k d = rw k (record { equal = d.equal })
 
-    pub clear_stops : (r ≡ 0 → ⊥) → Answers ws (clearing g p n) (Bad r p) ws'
-    unfolding clearing ◌>>=◌ go_on refuse give shown
-    clear_stops z = rw k (record { equal = λ ts. sym (broken_off ws ws' (clear_scene g) r d p ts z) })
-
-  module _ {ok : Bool} (u : Passes ws 20 (λ p. all_shapes p base n) ok ws) where
-    pub group_refused : not ok ≡ true → Answers ws (grouped g p base n) (Bad 20 p) ws
-    unfolding grouped shown
-    group_refused t = record { equal = λ ts. sym (after_refusal _ p ts (rw (not-true ok t) at u)) }
-
-    pub group_made : {r : Answer} {at : ℕ} {ws' : List ℕ} → not ok ≡ false → at ≡ argument_place (base + 0) → Answers ws (grouping g p 1 8 at n) r ws'
-        → Answers ws (grouped g p base n) r ws'
-    unfolding grouped grouping
-    group_made t e a = record { equal = λ ts. (rw (e, first_is base) at (a.equal ts)) ∙ sym (after_pass _ p ts (rw (not-false ok t) at u)) }
+  pub group_made : {r : Result Value Fault} {at : ℕ} {ws' : List ℕ} → Does ws (all_shapes p base n) (Ok tt) ws → at ≡ argument_place (base + 0) → Does ws (grouping g p 1 8 at n) r ws'
+      → Does ws (grouped g p base n) r ws'
+  unfolding grouped grouping
+  group_made u e a = goes _ u (rw (e, first_is base) at a)
 
 -- ---- calls
 module _ (ws g : List ℕ) (number p base n : ℕ) where
-  pub performs_10 : {r : Answer} {ws' : List ℕ} → (number ≡ 0 → ⊥) → (number ≡ 1 → ⊥) → (number ≡ 2 → ⊥) → (number ≡ 3 → ⊥) → (number ≡ 4 → ⊥) → (number ≡ 5 → ⊥)
-      → (number ≡ 6 → ⊥) → (number ≡ 7 → ⊥) → (number ≡ 8 → ⊥) → (number ≡ 9 → ⊥) → Answers ws (grouped g p base n) r ws' → Answers ws (perform g number p base n) r ws'
+  pub performs_10 : {r : Result Value Fault} {ws' : List ℕ} → (number ≡ 0 → ⊥) → (number ≡ 1 → ⊥) → (number ≡ 2 → ⊥) → (number ≡ 3 → ⊥) → (number ≡ 4 → ⊥) → (number ≡ 5 → ⊥)
+      → (number ≡ 6 → ⊥) → (number ≡ 7 → ⊥) → (number ≡ 8 → ⊥) → (number ≡ 9 → ⊥) → Does ws (grouped g p base n) r ws' → Does ws (perform g number p base n) r ws'
   unfolding perform if◌then◌otherwise◌
   performs_10 a b c d e f h i j k l =
       rw (ne_eqb _ _ a, ne_eqb _ _ b, ne_eqb _ _ c, ne_eqb _ _ d, ne_eqb _ _ e) (rw (ne_eqb _ _ f, ne_eqb _ _ h, ne_eqb _ _ i, ne_eqb _ _ j, ne_eqb _ _ k) l)
 
-  pub unknown : 11 ≤ number → Answers ws (call_library g number p base n) (Bad 20 p) ws
-  unfolding call_library if◌then◌otherwise◌ fail shown
+  pub unknown : 11 ≤ number → Does ws (call_library g number p base n) (Err (Misuse p)) ws
+  unfolding call_library if◌then◌otherwise◌ fail out_of
   unknown h = record { equal = λ ts. rw (le-ltb number 11 h) }
 
-  pub dead_argument : {ok : Bool} → number < 11 → Passes ws 30 (λ p. all_usable p base n) ok ws → not ok ≡ true → Answers ws (call_library g number p base n) (Bad 30 p) ws
-  unfolding call_library if◌then◌otherwise◌ shown
-  dead_argument {ok} h u t = record { equal = λ ts. sym (rw (lt-ltb number 11 h) (after_refusal (λ _. perform g number p base n) p ts (rw (not-true ok t) at u))) }
-
-  pub performs : {ok : Bool} {r : Answer} {ws' : List ℕ} → number < 11 → Passes ws 30 (λ p. all_usable p base n) ok ws → not ok ≡ false
-      → Answers ws (perform g number p base n) r ws' → Answers ws (call_library g number p base n) r ws'
-  unfolding call_library if◌then◌otherwise◌
-  performs {ok} h u t a =
-      record { equal = λ ts. a.equal ts ∙ sym (rw (lt-ltb number 11 h) (after_pass (λ _. perform g number p base n) p ts (rw (not-false ok t) at u))) }
+  pub performs : {r : Result Value Fault} {ws' : List ℕ} → number < 11 → Does ws (all_usable p base n >>= λ _. perform g number p base n) r ws' → Does ws (call_library g number p base n) r ws'
+  unfolding call_library
+  performs h a = taken _ _ _ (lt-ltb number 11 h) a

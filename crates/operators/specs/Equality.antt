@@ -1,11 +1,10 @@
 -- Two values compared.
-use Rattle.std.specs.Prelude.{ℕ, ◌≡◌, Bool, List}
+use Rattle.std.specs.Prelude.{ℕ, Bool, List}
 use Rattle.machine.specs.Layout.{shapes_granted}
 use Rattle.machine.specs.Words.{unpacked}
-use Rattle.machine.specs.Act.{raw, Act, give, fail}
+use Rattle.machine.specs.Act.{Act, give, fail}
 use Rattle.machine.specs.Groups.{alike_at}
 use Rattle.machine.specs.Operate.{Comparison, refused, settled, of_shapes, equality, figures_same}
-use Rattle.pairs.specs.Pairs.{judged}
 
 module _ (program g : List ℕ) (p : ℕ) where
   -- two values
@@ -14,5 +13,6 @@ module _ (program g : List ℕ) (p : ℕ) where
   comparison (settled b) = give b
   comparison (of_shapes i j) = alike_at (figures_same program) (shapes_granted g) g p 0 i j
 
-pub record Equates (program g ts ws : List ℕ) (a b number : ℕ) (ws' : List ℕ) : Type 0 where
-  pub equal : (p : ℕ) → judged number p ts ws' ≡ comparison program g p (equality program (raw ts ws) (unpacked a) (unpacked b)) (raw ts ws)
+  -- two values by their words
+  unfoldable pub equating : ℕ → ℕ → Act Bool
+  equating a b r = comparison (equality program r (unpacked a) (unpacked b)) r

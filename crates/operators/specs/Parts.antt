@@ -1,19 +1,20 @@
 -- What the parts of the code for operators answer.
-use Rattle.std.specs.Prelude.{ℕ, ◌≡◌, Bool, cond, ◌&&◌, List, eqb}
+use Rattle.std.specs.Prelude.{ℕ, ◌≡◌, Bool, false, cond, ◌&&◌, List, eqb, Result, Ok, Err}
 use Rattle.machine.specs.declared.Value.{Value}
 use Rattle.machine.specs.declared.Value.TheVariants.{Integer, Text, Boolean, Nothing, Table, Shape}
-use Rattle.machine.specs.declared.Answer.{Answer}
+use Rattle.machine.specs.declared.Fault.{Fault}
+use Rattle.machine.specs.declared.Fault.TheVariants.{Misuse}
 use Rattle.machine.specs.Words.{kind_in, unpacked}
-use Rattle.machine.specs.Act.{raw, shown}
+use Rattle.machine.specs.Act.{DoesIn, Does}
 use Rattle.machine.specs.Operate.{operate_on, operate}
 
 -- ---- two integers: the slices are neither read nor changed
-pub record Computes (tag p : ℕ) (v w : Value) (answer : Answer) : Type 0 where
-  pub equal : (program grants ts ws : List ℕ) → shown answer ts ws ≡ operate_on program grants tag p v w (raw ts ws)
+pub record Computes (tag p : ℕ) (v w : Value) (answer : Result Value Fault) : Type 0 where
+  pub does : (program grants ws : List ℕ) → Does ws (operate_on program grants tag p v w) answer ws
 
 -- ---- a shape and an integer: the texts are neither read nor changed
-pub record Draws (grants before : List ℕ) (tag p : ℕ) (v w : Value) (answer : Answer) (after : List ℕ) : Type 0 where
-  pub equal : (program ts : List ℕ) → shown answer ts after ≡ operate_on program grants tag p v w (raw ts before)
+pub record Draws (grants before : List ℕ) (tag p : ℕ) (v w : Value) (answer : Result Value Fault) (after : List ℕ) : Type 0 where
+  pub does : (program : List ℕ) → Does before (operate_on program grants tag p v w) answer after
 
 -- ---- other values
 -- whether both words are integers
@@ -30,8 +31,8 @@ pub record Other (tag a b : ℕ) : Type 0 where
   pub differs : tag ≡ 25 → ⊥
   pub mixed : NotBoth a b
 
-pub record Calculates (grants before : List ℕ) (tag p a b : ℕ) (answer : Answer) (after : List ℕ) : Type 0 where
-  pub equal : Other tag a b → Draws grants before tag p (unpacked a) (unpacked b) answer after
+pub record Calculates (grants before : List ℕ) (tag p a b : ℕ) (answer : Result Value Fault) (after : List ℕ) : Type 0 where
+  pub draws : Other tag a b → Draws grants before tag p (unpacked a) (unpacked b) answer after
 
 -- ---- equality
 -- a kind's number: every word that is of no other kind holds nothing
@@ -43,18 +44,14 @@ kind_number Nothing = 4
 kind_number (Table t) = 5
 kind_number (Shape i) = 6
 
--- of two kinds: 0 unequal, 20 not to be compared
-abbrev pub unlike : ℕ → ℕ → ℕ
-unlike k l = cond (eqb k 4) 0 (cond (eqb l 4) 0 20)
-
--- the texts are not changed
-pub record Compares (program grants ts ws : List ℕ) (tag p a b : ℕ) (answer : Answer) (ws' : List ℕ) : Type 0 where
-  pub equal : shown answer ts ws' ≡ operate_on program grants tag p (unpacked a) (unpacked b) (raw ts ws)
+-- of two kinds: nothing and any other value are unequal, others are not to be compared
+abbrev pub unlike : ℕ → ℕ → ℕ → Result Bool Fault
+unlike p k l = cond (eqb k 4) (Ok false) (cond (eqb l 4) (Ok false) (Err (Misuse p)))
 
 -- ---- any values that are not both integers
 -- neither of them a destroyed shape
-pub record Mixes (program grants ts ws : List ℕ) (tag p a b : ℕ) (answer : Answer) (ts' ws' : List ℕ) : Type 0 where
-  pub equal : NotBoth a b → shown answer ts' ws' ≡ operate_on program grants tag p (unpacked a) (unpacked b) (raw ts ws)
+pub record Mixes (program grants ts ws : List ℕ) (tag p a b : ℕ) (answer : Result Value Fault) (ts' ws' : List ℕ) : Type 0 where
+  pub does : NotBoth a b → DoesIn ts ws (operate_on program grants tag p (unpacked a) (unpacked b)) answer ts' ws'
 
-pub record Operates (program grants ts ws : List ℕ) (tag p a b : ℕ) (answer : Answer) (ts' ws' : List ℕ) : Type 0 where
-  pub equal : NotBoth a b → shown answer ts' ws' ≡ operate program grants tag p (unpacked a) (unpacked b) (raw ts ws)
+pub record Operates (program grants ts ws : List ℕ) (tag p a b : ℕ) (answer : Result Value Fault) (ts' ws' : List ℕ) : Type 0 where
+  pub does : NotBoth a b → DoesIn ts ws (operate program grants tag p (unpacked a) (unpacked b)) answer ts' ws'

@@ -1,11 +1,13 @@
 // Equality of values.
-ghost use Rattle.std.specs.Prelude.{◌≡◌, cond};
+ghost use Rattle.std.specs.Prelude.{◌≡◌};
 ghost use Rattle.machine.specs.Words.{unpacked};
 ghost use Rattle.machine.specs.Layout.{Room};
-ghost use Rattle.operators.specs.Parts.{kind_number, unlike, Compares};
-ghost use Rattle.operators.specs.Equality.{Equates};
+ghost use Rattle.machine.specs.Act.{DoesIn};
+ghost use Rattle.machine.specs.Operate.{operate_on};
+ghost use Rattle.operators.specs.Parts.{kind_number, unlike};
+ghost use Rattle.operators.specs.Equality.{equating};
 
-use machine::{Answer, Value, kinds};
+use machine::{Fault, Value, kinds};
 
 // A value's kind; a word of no other kind holds nothing.
 fn kind(w: u64) -> u64
@@ -21,60 +23,53 @@ fn kind(w: u64) -> u64
     }
 }
 
-// 1 if so, else 0.
-fn number(b: bool) -> u64
-    ensures { result ≡ cond b 1 0 }
-{
-    if b { 1 } else { 0 }
-}
-
 // Of values of two kinds: nothing and any other value are unequal.
-fn unlike(k: u64, l: u64) -> u64
-    ensures { result ≡ unlike k l }
+fn unlike(p: u64, k: u64, l: u64) -> Result<bool, Fault>
+    ensures { result ≡ unlike p k l }
 {
     if k == kinds::NOTHING {
-        return 0;
+        return Ok(false);
     }
     if l == kinds::NOTHING {
-        return 0;
+        return Ok(false);
     }
-    20
+    Err(Fault::Misuse(p))
 }
 
-// Whether two values are equal: 0 no, 1 yes, 20 if they may not be compared, 79 if the steps run out.
+// Whether two values are equal, if they may be compared.
 fn equality<'a>(
     program: &'a [u8],
     texts: &'a [u8],
     words: &mut [u64],
     grants: &[u64; 5],
+    p: u64,
     a: u64,
     b: u64,
-) -> u64
+) -> Result<bool, Fault>
     requires { Room grants.now words.old }
-    ensures { Equates program.now grants.now texts.now words.old a b result words.new }
+    ensures { DoesIn texts.now words.old (equating program.now grants.now p a b) result texts.now words.new }
 {
     let k = kind(a);
     let l = kind(b);
     if k != l {
-        return unlike(k, l);
+        return unlike(p, k, l);
     }
     match k {
-        kinds::INTEGER => number(arithmetic::same(values::integer_of(a), values::integer_of(b))),
-        kinds::TEXT => number(texts::same_text(
+        kinds::INTEGER => Ok(arithmetic::same(values::integer_of(a), values::integer_of(b))),
+        kinds::TEXT => Ok(texts::same_text(
             program,
             texts,
             values::handle_of(a),
             values::handle_of(b),
         )),
-        kinds::TRUTH => number(a / 8 % 2 == b / 8 % 2),
-        kinds::NOTHING => 1,
+        kinds::TRUTH => Ok(a / 8 % 2 == b / 8 % 2),
+        kinds::NOTHING => Ok(true),
         kinds::SHAPE => {
             let i = values::number_of(a);
             let j = values::number_of(b);
-            let r = pairs::alike(program, texts, words, grants, i, j);
-            r
+            pairs::alike(program, texts, words, grants, p, i, j)
         }
-        _ => 20,
+        _ => Err(Fault::Misuse(p)),
     }
 }
 
@@ -87,15 +82,13 @@ pub fn equal<'a>(
     p: u64,
     a: u64,
     b: u64,
-) -> Answer
+) -> Result<Value, Fault>
     requires { Room grants.now words.old }
-    ensures { Compares program.now grants.now texts.now words.old 24 p a b result words.new }
+    ensures { DoesIn texts.now words.old
+        (operate_on program.now grants.now 24 p (unpacked a) (unpacked b)) result texts.now words.new }
 {
-    let found = equality(program, texts, words, grants, a, b);
-    if 1 < found {
-        return Answer::Bad(found, p);
-    }
-    Answer::Good(Value::Boolean(found == 1))
+    let same = equality(program, texts, words, grants, p, a, b)?;
+    Ok(Value::Boolean(same))
 }
 
 // a != b.
@@ -107,13 +100,11 @@ pub fn unequal<'a>(
     p: u64,
     a: u64,
     b: u64,
-) -> Answer
+) -> Result<Value, Fault>
     requires { Room grants.now words.old }
-    ensures { Compares program.now grants.now texts.now words.old 25 p a b result words.new }
+    ensures { DoesIn texts.now words.old
+        (operate_on program.now grants.now 25 p (unpacked a) (unpacked b)) result texts.now words.new }
 {
-    let found = equality(program, texts, words, grants, a, b);
-    if 1 < found {
-        return Answer::Bad(found, p);
-    }
-    Answer::Good(Value::Boolean(found == 0))
+    let same = equality(program, texts, words, grants, p, a, b)?;
+    Ok(Value::Boolean(!same))
 }

@@ -4,22 +4,24 @@ ghost use Rattle.machine.specs.Layout.{Room};
 ghost use Rattle.operators.specs.Parts.{Draws};
 
 use figures::changes;
-use machine::Answer;
+use machine::{Fault, Value};
 
 // An operator, by its tag, on a shape and an integer.
-pub fn on_shape(words: &mut [u64], grants: &[u64; 5], tag: u64, p: u64, i: u32, n: i32) -> Answer
+pub fn on_shape(
+    words: &mut [u64],
+    grants: &[u64; 5],
+    tag: u64,
+    p: u64,
+    i: u32,
+    n: i32,
+) -> Result<Value, Fault>
     requires { Room grants.now words.old }
     ensures { Draws grants.now words.old tag p (Shape i) (Integer n) result words.new }
 {
-    let refused = changes::refusal(tag, n);
-    if refused != 0 {
-        return Answer::Bad(refused, p);
-    }
+    changes::allowed(tag, n, p)?;
     if stores::shapes::is_group(words, i) {
-        let r = remaking::remake_group(words, grants, tag, n, p, i);
-        return r;
+        return remaking::remake_group(words, grants, tag, n, p, i);
     }
     let f = changes::changed(tag, stores::shapes::figure_at(words, i), n);
-    let r = stores::shapes::new_shape(words, grants, p, f);
-    r
+    stores::shapes::new_shape(words, grants, p, f)
 }

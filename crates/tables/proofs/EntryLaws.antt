@@ -1,99 +1,135 @@
--- What each way through reading and storing an entry does.
-use Prim.Native.Nat.{ℕ, ◌+◌, ◌-◌, ◌%◌, ◌^◌, ◌≤◌, ◌<◌}
-use mathlib.Core.Path.{◌≡◌, ◌∙◌}
+-- Reading and storing an entry.
+use Prim.Native.Nat.{ℕ, zero, suc, ◌+◌, ◌-◌, ◌%◌, ◌^◌, ◌≤◌, ◌<◌}
+use mathlib.Core.Path.{◌≡◌, ◌∙◌, refl}
 use mathlib.Core.List.{List}
-use mathlib.Core.Bool.{Bool, true, false, not}
+use mathlib.Core.Bool.{Bool, true, false}
 use native.Mathlib.Omega.{arith}
 use native.Mathlib.Nat.{mod-lt}
 use lib.ListN.{length, get_or, set, length-set}
-use borrow.Author.Tests.{not-true, not-false, ne_eqb, le-leb, lt-leb}
+use lib.Dec.{eqb}
+use borrow.Author.Tests.{ne_eqb}
+use Rattle.std.specs.Prelude.{Result, Ok, Err, Option, None, Some}
+use Rattle.machine.specs.declared.Fault.{Fault}
+use Rattle.machine.specs.declared.Fault.TheVariants.{Misuse}
 use Rattle.machine.specs.declared.Value.{Value}
-use Rattle.machine.specs.declared.Answer.TheVariants.{Good, Bad}
 use Rattle.machine.specs.Words.{unpacked}
-use Rattle.machine.specs.Layout.{entries_made, entry_place, Room}
-use Rattle.machine.specs.Act.{raw, go_on, give, fail, refuse, load, store, spend, shown, passed, PassesIn, ◌>>=◌}
-use Rattle.machine.specs.Variables.{is_dead, usable}
+use Rattle.machine.specs.Layout.{entries_used, entries_made, entries_granted, entry_place, Room}
+use Rattle.machine.specs.Act.{go_on, give, refuse, load, store, spend, out_of, DoesIn, Does, ◌>>=◌, ◌>>◌}
+use Rattle.machine.specs.Variables.{usable}
 use Rattle.machine.specs.Tables.{find_entry, read_from, read_entry, bucket_of, entry_laid, put_entry, add_entry, store_in, store_entry, is_group_key}
-use Rattle.tables.specs.Asked.{Puts, putting, Stores}
+use Rattle.machine.proofs.Acts.{allowed_in, refused_in}
+use Rattle.stores.proofs.Acts.{covered}
+use Rattle.tables.specs.Asked.{Puts, entry_before, putting}
 use Rattle.tables.proofs.IndexLaws.{bucket_less, found_le}
 use Rattle.meaning.specs.Basics.{if◌then◌otherwise◌}
 
--- ---- where a found entry stands
-module _ (program g ts ws : List ℕ) (t key k : ℕ) (l : Room g ws) (e : k ≡ find_entry program g ts ws t key) where
-  below : k ≤ get_or g 2 0
-  below = omega (arith, e, found_le program g ts ws t key)
+-- ---- what was found
+found_by : (n : ℕ) {k : ℕ} → entry_before n ≡ Some k → n ≡ suc k
+unfolding entry_before
+found_by zero e = cc
+found_by (suc n) e = cc
 
-  pub found_small : k - 1 < 2 ^ 16
-  found_small = omega (arith, below, l.entries)
+not_found : (n : ℕ) → entry_before n ≡ None → n ≡ 0
+unfolding entry_before
+not_found zero e = refl
+not_found (suc n) e = cc
 
-  pub found_room : (at : ℕ) → (k ≡ 0 → ⊥) → at ≡ entry_place g (k - 1) → at + 4 ≤ length ws
-  found_room at n f = omega (arith, below, l.words, n)
+module _ (program g ts ws : List ℕ) (t key : ℕ) {o : Option ℕ} (e : o ≡ entry_before (find_entry program g ts ws t key)) where
+  pub missing : o ≡ None → find_entry program g ts ws t key ≡ 0
+  missing s = not_found _ (rw e at s)
+
+  module _ {k : ℕ} (s : o ≡ Some k) where
+    pub found : find_entry program g ts ws t key ≡ suc k
+    found = found_by _ (rw e at s)
+
+    module _ (l : Room g ws) where
+      pub found_small : k < 2 ^ 16
+      found_small = omega (arith, found, found_le program g ts ws t key, l.entries)
+
+      pub found_room : (at : ℕ) → at ≡ entry_place g k → at + 4 ≤ length ws
+      found_room at f = omega (arith, found, found_le program g ts ws t key, l.words)
 
 -- ---- reading
-pub group_read : (program g ts ws : List ℕ) (p t key : ℕ) (b : Bool) → b ≡ is_group_key ws key → b ≡ true → shown (Bad 20 p) ts ws ≡ read_entry program g p t key (raw ts ws)
-unfolding read_entry ◌>>=◌ go_on refuse fail shown
-group_read program g ts ws p t key b e z = rw (← e, z)
+module _ (program g ts ws : List ℕ) (p t key : ℕ) {s : Result Value Fault} {ts' ws' : List ℕ} where
+  reading : DoesIn ts ws (refuse (is_group_key ws key) 20 p >> read_from g p (find_entry program g ts ws t key)) s ts' ws' → DoesIn ts ws (read_entry program g p t key) s ts' ws'
+  unfolding read_entry
+  reading h = record { equal = h.equal }
 
-module _ (program g ts ws : List ℕ) (p t key k : ℕ) (a : Bool) (e₀ : a ≡ is_group_key ws key) (z₀ : a ≡ false) (e : k ≡ find_entry program g ts ws t key) where
-  pub no_entry : k ≡ 0 → shown (Bad 20 p) ts ws ≡ read_entry program g p t key (raw ts ws)
-  unfolding read_entry read_from ◌>>=◌ go_on refuse fail give shown
-  no_entry z = rw (← e₀, z₀, ← e, z)
+pub group_read : (program g ts ws : List ℕ) (p t key : ℕ) {b : Bool} → b ≡ is_group_key ws key → b ≡ true → DoesIn ts ws (read_entry program g p t key) (Err (Misuse p)) ts ws
+group_read program g ts ws p t key e z = reading program g ts ws p t key (refused_in _ (Misuse p) _ ts (rw e at z))
 
-  module _ (at : ℕ) (b : Bool) (n : k ≡ 0 → ⊥) (f : at ≡ entry_place g (k - 1)) (d : b ≡ is_dead ws (unpacked (get_or ws (at + 2) 0))) where
-    pub dead_entry : b ≡ true → shown (Bad 30 p) ts ws ≡ read_entry program g p t key (raw ts ws)
-    unfolding read_entry read_from ◌>>=◌ go_on refuse fail give load usable shown
-    dead_entry z = rw (← e₀, z₀, ← e, ne_eqb _ _ n, ← f, ← d, z)
+module _ (program g ts ws : List ℕ) (p t key : ℕ) {b : Bool} (e₀ : b ≡ is_group_key ws key) (z₀ : b ≡ false) {o : Option ℕ} (e : o ≡ entry_before (find_entry program g ts ws t key)) where
+  pub no_entry : o ≡ None → DoesIn ts ws (read_entry program g p t key) (Err (Misuse p)) ts ws
+  unfolding read_from
+  no_entry z =
+      let q : eqb (find_entry program g ts ws t key) 0 ≡ true = rw (missing program g ts ws t key e z) refl in
+      reading program g ts ws p t key (allowed_in _ _ _ _ (rw e₀ at z₀) (refused_in _ (Misuse p) _ ts q))
 
-    pub entry_read : (v : Value) → b ≡ false → v ≡ unpacked (get_or ws (at + 2) 0) → shown (Good v) ts ws ≡ read_entry program g p t key (raw ts ws)
-    unfolding read_entry read_from ◌>>=◌ go_on refuse fail give load usable shown
-    entry_read v z q = rw (q, ← e₀, z₀, ← e, ne_eqb _ _ n, ← f, ← d, z)
+  -- what is left to do with the entry
+  pub entry_there : {k at : ℕ} {s : Result Value Fault} → o ≡ Some k → at ≡ entry_place g k
+      → DoesIn ts ws (usable p (unpacked (get_or ws (at + 2) 0)) >> give (unpacked (get_or ws (at + 2) 0))) s ts ws → DoesIn ts ws (read_entry program g p t key) s ts ws
+  unfolding read_from ◌>>=◌ go_on load refuse give
+  entry_there {k} z f h =
+      let q = found program g ts ws t key e z in
+      let m : suc k - 1 ≡ k = omega arith in
+      let y : eqb (suc k) 0 ≡ false = ne_eqb (suc k) 0 (λ w. omega arith) in
+      reading program g ts ws p t key (allowed_in _ _ _ _ (rw e₀ at z₀) (record { equal = h.equal ∙ rw (q, y, m, f) refl }))
 
 -- ---- a new entry
-pub bucket_small : (program g ts ws : List ℕ) (t key b : ℕ) → get_or ws 2 0 < get_or g 2 0 → b ≡ bucket_of program g ts ws t key → Room g ws → b < 2 ^ 16
-bucket_small program g ts ws t key b h e l = omega (arith, e, bucket_less program g ts ws t key (omega arith), l.entries)
+pub bucket_small : (program g ts ws : List ℕ) (t key b : ℕ) → 0 < get_or g 2 0 → b ≡ bucket_of program g ts ws t key → Room g ws → b < 2 ^ 16
+bucket_small program g ts ws t key b h e l = omega (arith, e, bucket_less program g ts ws t key h, l.entries)
 
-pub made_small : (n size : ℕ) {m : ℕ} → m < size → size < 2 ^ 16 → n % size < 2 ^ 16
-made_small n size l h = omega (arith, let q : n % size < size = mod-lt n (omega arith) in q)
+module _ (program g ts ws : List ℕ) (t key value p : ℕ) where
+  pub adding : {s : Result (Unit {0}) Fault} {ts' ws' : List ℕ} → DoesIn ts ws (do
+    n ← load entries_made
+    spend entries_used (entries_granted g) 1 77 p
+    store entries_made (n % entries_granted g + 1)
+    put_entry (entry_place g (n % entries_granted g)) (entry_place g (bucket_of program g ts ws t key) + 3) t key value (n % entries_granted g + 1)) s ts' ws'
+      → DoesIn ts ws (add_entry program g t key value p) s ts' ws'
+  unfolding add_entry
+  adding h = record { equal = h.equal }
 
-module _ (program g ts ws : List ℕ) (t key value : ℕ) where
-  pub no_entry_left : get_or g 2 0 ≤ get_or ws 2 0 → PassesIn ts ws 77 (add_entry program g t key value) false ws
-  unfolding add_entry ◌>>=◌ go_on load spend passed if◌then◌otherwise◌
-  no_entry_left h = record { equal = λ p. rw (lt-leb (get_or ws 2 0 + 1) (get_or g 2 0) (omega arith)) }
+  module _ {ws₁ : List ℕ} (h : Does ws (spend entries_used (entries_granted g) 1 77 p) (Ok tt) ws₁) where
+    pub entries_some : 0 < get_or g 2 0
+    entries_some = omega (arith, (covered 77 p h).within)
 
-  module _ (n b at head : ℕ) (h : get_or ws 2 0 < get_or g 2 0) (m : n ≡ get_or ws entries_made 0 % get_or g 2 0) (e : b ≡ bucket_of program g ts ws t key)
-      (f : at ≡ entry_place g n) (d : head ≡ entry_place g b) where
-    pub entry_added : (ws' : List ℕ) → ws' ≡ entry_laid (set (set ws 2 (get_or ws 2 0 + 1)) entries_made (n + 1)) at (head + 3) t key value (n + 1)
-        → PassesIn ts ws 77 (add_entry program g t key value) true ws'
-    unfolding add_entry put_entry ◌>>=◌ go_on load store spend passed if◌then◌otherwise◌
-    entry_added ws' q = record { equal = λ p. rw (q, d, f, m, e, le-leb (get_or ws 2 0 + 1) (get_or g 2 0) (omega arith)) }
+    pub made_small : Room g ws → get_or ws entries_made 0 % get_or g 2 0 < 2 ^ 16
+    made_small l = let q : get_or ws entries_made 0 % get_or g 2 0 < get_or g 2 0 = mod-lt _ entries_some in omega (arith, l.entries)
 
-    pub puts_entry : Room g ws → Puts (set (set ws 2 (get_or ws 2 0 + 1)) entries_made (n + 1)) at (head + 3)
-    puts_entry l =
-        let b_less : b < get_or g 2 0 = rw e (bucket_less program g ts ws t key (omega arith)) in
-        let n_less : n < get_or g 2 0 = rw m (mod-lt _ (omega arith)) in
-        let long : length (set (set ws 2 (get_or ws 2 0 + 1)) entries_made (n + 1)) ≡ length ws = simp length-set in
-        record { entry = omega (arith, l.words); index = omega (arith, l.words) }
+    module _ (at b head : ℕ) (e : b ≡ bucket_of program g ts ws t key) (f : at ≡ entry_place g (get_or ws entries_made 0 % get_or g 2 0)) (d : head ≡ entry_place g b) where
+      pub puts_entry : Room g ws → length ws₁ ≡ length ws → Puts (set ws₁ entries_made (get_or ws entries_made 0 % get_or g 2 0 + 1)) at (head + 3)
+      puts_entry l k =
+          let b_less : b < get_or g 2 0 = rw e (bucket_less program g ts ws t key entries_some) in
+          let n_less : get_or ws entries_made 0 % get_or g 2 0 < get_or g 2 0 = mod-lt _ entries_some in
+          let long : length (set ws₁ entries_made (get_or ws entries_made 0 % get_or g 2 0 + 1)) ≡ length ws = length-set ws₁ entries_made _ ∙ k in
+          record { entry = omega (arith, l.words); index = omega (arith, l.words) }
+
+      pub entry_put : {ws' : List ℕ} → ws' ≡ entry_laid (set ws₁ entries_made (get_or ws entries_made 0 % get_or g 2 0 + 1)) at (head + 3) t key value (get_or ws entries_made 0 % get_or g 2 0 + 1)
+          → DoesIn ts ws₁ (store entries_made (get_or ws entries_made 0 % entries_granted g + 1) >>
+          put_entry (entry_place g (get_or ws entries_made 0 % entries_granted g)) (entry_place g (bucket_of program g ts ws t key) + 3) t key value (get_or ws entries_made 0 % entries_granted g + 1)) (Ok tt) ts ws'
+      unfolding put_entry store ◌>>=◌ go_on out_of
+      entry_put q = record { equal = rw (q, d, f, e) }
 
 -- ---- storing
-module _ (program g ts ws : List ℕ) (t key value k : ℕ) (e : k ≡ find_entry program g ts ws t key) where
-  pub stores_new : (ok : Bool) (ws' : List ℕ) → k ≡ 0 → PassesIn ts ws 77 (add_entry program g t key value) ok ws' → PassesIn ts ws 77 (putting program g ts ws t key value) ok ws'
+module _ (program g ts ws : List ℕ) (t key value p : ℕ) {o : Option ℕ} (e : o ≡ entry_before (find_entry program g ts ws t key)) where
+  pub stores_new : {s : Result (Unit {0}) Fault} {ws' : List ℕ} → o ≡ None → DoesIn ts ws (add_entry program g t key value p) s ts ws' → DoesIn ts ws (putting program g ts ws t key value p) s ts ws'
   unfolding putting store_in if◌then◌otherwise◌
-  stores_new ok ws' z h = record { equal = λ p. h.equal p ∙ rw (← e, z) }
+  stores_new z h = record { equal = h.equal ∙ rw (missing program g ts ws t key e z) }
 
-  pub stores_old : (at : ℕ) → (k ≡ 0 → ⊥) → at ≡ entry_place g (k - 1) → PassesIn ts ws 77 (putting program g ts ws t key value) true (set ws (at + 2) value)
-  unfolding putting store_in store passed if◌then◌otherwise◌
-  stores_old at n f = record { equal = λ p. rw (← e, ne_eqb _ _ n, f) }
+  pub stores_old : {k at : ℕ} → o ≡ Some k → at ≡ entry_place g k → DoesIn ts ws (putting program g ts ws t key value p) (Ok tt) ts (set ws (at + 2) value)
+  unfolding putting store_in store out_of if◌then◌otherwise◌
+  stores_old {k} z f =
+      let m : suc k - 1 ≡ k = omega arith in
+      let y : eqb (suc k) 0 ≡ false = ne_eqb (suc k) 0 (λ w. omega arith) in
+      record { equal = rw (found program g ts ws t key e z, y, m, f) }
 
-module _ (program g ts ws : List ℕ) (t key value : ℕ) (a : Bool) (e₀ : a ≡ is_group_key ws key) where
-  pub group_stored : a ≡ true → Stores program g ts ws t key value 20 ws
-  unfolding store_entry ◌>>=◌ go_on refuse fail passed
-  group_stored z = record { equal = λ p. rw (← e₀, z) }
+module _ (program g ts ws : List ℕ) (t key value p : ℕ) {b : Bool} (e : b ≡ is_group_key ws key) where
+  storing : {s : Result (Unit {0}) Fault} {ws' : List ℕ} → DoesIn ts ws (refuse (is_group_key ws key) 20 p >> putting program g ts ws t key value p) s ts ws' → DoesIn ts ws (store_entry program g t key value p) s ts ws'
+  unfolding store_entry putting
+  storing h = record { equal = h.equal }
 
-  module _ (z₀ : a ≡ false) (ok : Bool) (ws' : List ℕ) (h : PassesIn ts ws 77 (putting program g ts ws t key value) ok ws') where
-    pub none_left : not ok ≡ true → Stores program g ts ws t key value 77 ws'
-    unfolding store_entry putting ◌>>=◌ go_on refuse give passed
-    none_left z = record { equal = λ p. (rw (not-true ok z) at h).equal p ∙ rw (← e₀, z₀) }
+  pub group_stored : b ≡ true → DoesIn ts ws (store_entry program g t key value p) (Err (Misuse p)) ts ws
+  group_stored z = storing (refused_in _ (Misuse p) _ ts (rw e at z))
 
-    pub value_stored : not ok ≡ false → Stores program g ts ws t key value 0 ws'
-    unfolding store_entry putting ◌>>=◌ go_on refuse give passed
-    value_stored z = record { equal = λ p. (rw (not-false ok z) at h).equal p ∙ rw (← e₀, z₀) }
+  pub value_stored : {s : Result (Unit {0}) Fault} {ws' : List ℕ} → b ≡ false → DoesIn ts ws (putting program g ts ws t key value p) s ts ws' → DoesIn ts ws (store_entry program g t key value p) s ts ws'
+  value_stored z h = storing (allowed_in _ _ _ _ (rw e at z) h)

@@ -11,7 +11,8 @@ use borrow.Author.Tests.{ne_eqb, le-leb, lt-leb, lt-ltb, le-ltb, leb-true, ltb-t
 use Rattle.meaning.specs.Basics.{if◌then◌otherwise◌}
 use Rattle.machine.specs.Layout.{entry_place, entries_granted, Room}
 use Rattle.machine.specs.Tables.{matches, content_of, hash_from, spread, bucket_of, head_place, link_at, walk, find_entry}
-use Rattle.tables.specs.Asked.{matches_at}
+use Rattle.std.specs.Prelude.{None, Some}
+use Rattle.tables.specs.Asked.{matches_at, entry_before}
 
 -- ---- buckets
 pub spread_less : (h size : ℕ) → 0 < size → spread h size < size
@@ -86,8 +87,12 @@ module _ (program g ts ws : List ℕ) (t key : ℕ) where
       go h true e = le_trans (walk_le (matches program g ts ws t key) (link_at g ws) h h) (leb-true h (entries_granted g) e)
       go h false e = omega arith
 
-  pub no_entries : get_or g 2 0 ≡ 0 → 0 ≡ find_entry program g ts ws t key
-  no_entries e = omega (arith, found_le)
+  none_before : find_entry program g ts ws t key ≡ 0 → None ≡ entry_before (find_entry program g ts ws t key)
+  unfolding entry_before
+  none_before e = rw e
+
+  pub no_entries : get_or g 2 0 ≡ 0 → None ≡ entry_before (find_entry program g ts ws t key)
+  no_entries e = none_before (omega (arith, found_le))
 
   -- the head's place
   pub head_less : (base b : ℕ) → Room g ws → (get_or g 2 0 ≡ 0 → ⊥) → base ≡ entry_place g 0 → b ≡ bucket_of program g ts ws t key → base + 4 * b + 3 < length ws
@@ -97,11 +102,11 @@ module _ (program g ts ws : List ℕ) (t key : ℕ) where
     head_there : base + 4 * b + 3 ≡ head_place g (bucket_of program g ts ws t key)
     head_there = omega arith
 
-    pub head_stray : get_or g 2 0 < get_or ws (base + 4 * b + 3) 0 → 0 ≡ find_entry program g ts ws t key
+    pub head_stray : get_or g 2 0 < get_or ws (base + 4 * b + 3) 0 → None ≡ entry_before (find_entry program g ts ws t key)
     unfolding find_entry if◌then◌otherwise◌
     head_stray l =
         let m = rw head_there at l in
-        rw (lt-leb (get_or ws (head_place g (bucket_of program g ts ws t key)) 0) (entries_granted g) m)
+        none_before (rw (lt-leb (get_or ws (head_place g (bucket_of program g ts ws t key)) 0) (entries_granted g) m) refl)
 
     pub walk_begin : Room g ws → get_or ws (base + 4 * b + 3) 0 ≤ get_or g 2 0 → Walking program g ts ws t key base (get_or ws (base + 4 * b + 3) 0)
     unfolding find_entry if◌then◌otherwise◌
@@ -127,16 +132,19 @@ module _ (program g ts ws : List ℕ) (t key : ℕ) where
     unfolding matches matches_at
     matches_there r e = sym (rw place at e)
 
-    pub walk_found : (r : Bool) → r ≡ matches_at program ts ws (base + 4 * (k - 1)) t key → r ≡ true → k ≡ find_entry program g ts ws t key
-    walk_found r e q = sym (w.rest ∙ walk_here (matches program g ts ws t key) (link_at g ws) w.turns k p w.enough (matches_there r e ∙ q))
+    pub walk_found : (r : Bool) → r ≡ matches_at program ts ws (base + 4 * (k - 1)) t key → r ≡ true → Some (k - 1) ≡ entry_before (find_entry program g ts ws t key)
+    unfolding entry_before
+    walk_found r e q =
+        let z : k ≡ suc (k - 1) = omega arith in
+        rw (w.rest ∙ walk_here (matches program g ts ws t key) (link_at g ws) w.turns k p w.enough (matches_there r e ∙ q) ∙ z) refl
 
     link_there : (next : ℕ) → next ≡ get_or ws (base + 4 * (k - 1)) 0 / 1099511627776 → link_at g ws (k - 1) ≡ next
     link_there next e = sym (rw place at e)
 
     pub walk_ends : (r : Bool) (next : ℕ) → r ≡ matches_at program ts ws (base + 4 * (k - 1)) t key → r ≡ false
-        → next ≡ get_or ws (base + 4 * (k - 1)) 0 / 1099511627776 → k ≤ next → 0 ≡ find_entry program g ts ws t key
+        → next ≡ get_or ws (base + 4 * (k - 1)) 0 / 1099511627776 → k ≤ next → None ≡ entry_before (find_entry program g ts ws t key)
     walk_ends r next e q z l =
-        sym (w.rest ∙ walk_stray (matches program g ts ws t key) (link_at g ws) w.turns k p w.enough (matches_there r e ∙ q) (rw (link_there next z) l))
+        none_before (w.rest ∙ walk_stray (matches program g ts ws t key) (link_at g ws) w.turns k p w.enough (matches_there r e ∙ q) (rw (link_there next z) l))
 
     pub walk_on : (r : Bool) (next : ℕ) → r ≡ matches_at program ts ws (base + 4 * (k - 1)) t key → r ≡ false
         → next ≡ get_or ws (base + 4 * (k - 1)) 0 / 1099511627776 → next < k → Walking program g ts ws t key base next
@@ -149,5 +157,5 @@ module _ (program g ts ws : List ℕ) (t key : ℕ) where
       rest = w.rest ∙ rw (← link_there next z) (walk_next (matches program g ts ws t key) (link_at g ws) w.turns k p w.enough (matches_there r e ∙ q) (rw (link_there next z) l));
     }
 
-  pub walk_over : (base k : ℕ) → Walking program g ts ws t key base k → k ≤ 0 → 0 ≡ find_entry program g ts ws t key
-  walk_over base k w h = sym (w.rest ∙ walk_done (matches program g ts ws t key) (link_at g ws) w.turns k h)
+  pub walk_over : (base k : ℕ) → Walking program g ts ws t key base k → k ≤ 0 → None ≡ entry_before (find_entry program g ts ws t key)
+  walk_over base k w h = none_before (w.rest ∙ walk_done (matches program g ts ws t key) (link_at g ws) w.turns k h)

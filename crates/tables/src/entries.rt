@@ -1,12 +1,12 @@
 // Look-up and update.
 ghost use Rattle.std.specs.Prelude.{◌+◌, ◌^◌, ◌≤◌, ◌<◌, ◌≡◌, length, get_or};
 ghost use Rattle.machine.specs.Layout.{entry_place, Room};
-ghost use Rattle.machine.specs.Act.{raw, shown, PassesIn};
-ghost use Rattle.machine.specs.Tables.{find_entry, read_entry, bucket_of, entry_laid, add_entry};
-ghost use Rattle.tables.specs.Asked.{matches_at, Puts, putting, Stores};
+ghost use Rattle.machine.specs.Act.{DoesIn};
+ghost use Rattle.machine.specs.Tables.{find_entry, read_entry, bucket_of, entry_laid, add_entry, store_entry};
+ghost use Rattle.tables.specs.Asked.{matches_at, entry_before, Puts, putting};
 
 use crate::{hashes, keys};
-use machine::{Answer, counters, granted, layout};
+use machine::{Fault, Value, counters, granted, layout};
 
 fn entry_place(grants: &[u64; 5], k: usize) -> usize
     requires { (get_or grants.now 1 0 < 2 ^ 16) × (k < 2 ^ 16) }
@@ -52,7 +52,7 @@ fn entry_matches<'a>(
     keys::same_key(program, texts, words, words[at + 1], key)
 }
 
-// The place behind the entry of a table with a key; 0 if there is none.
+// The entry of a table with a key.
 pub fn find_entry<'a>(
     program: &'a [u8],
     texts: &'a [u8],
@@ -60,35 +60,35 @@ pub fn find_entry<'a>(
     grants: &[u64; 5],
     t: u32,
     key: u64,
-) -> usize
+) -> Option<usize>
     requires { Room grants.now words.now }
-    ensures { result ≡ find_entry program.now grants.now texts.now words.now t key }
+    ensures { result ≡ entry_before (find_entry program.now grants.now texts.now words.now t key) }
 {
     if grants[granted::ENTRIES] == 0 {
-        return 0;
+        return None;
     }
     let base = entry_place(grants, 0);
     let b = bucket(program, texts, words, grants, t, key);
     let head = words[base + layout::ENTRY_WORDS * b + 3];
     if grants[granted::ENTRIES] < head {
-        return 0;
+        return None;
     }
     let mut k = head as usize;
     while 0 < k {
         let at = base + layout::ENTRY_WORDS * (k - 1);
         if entry_matches(program, texts, words, at, t, key) {
-            return k;
+            return Some(k - 1);
         }
         let next = (words[at] / 1099511627776) as usize;
         if k <= next {
-            return 0;
+            return None;
         }
         k = next;
     }
-    0
+    None
 }
 
-// The value of an entry: 20 if there is none or the key is a group, 30 if it is a destroyed shape.
+// The value of an entry: not of a group, and no destroyed shape.
 pub fn read_entry<'a>(
     program: &'a [u8],
     texts: &'a [u8],
@@ -97,22 +97,21 @@ pub fn read_entry<'a>(
     p: u64,
     t: u32,
     key: u64,
-) -> Answer
+) -> Result<Value, Fault>
     requires { Room grants.now words.now }
-    ensures { shown result texts.now words.now ≡ read_entry program.now grants.now p t key (raw texts.now words.now) }
+    ensures { DoesIn texts.now words.now (read_entry program.now grants.now p t key) result texts.now words.now }
 {
     if keys::is_group_key(words, key) {
-        return Answer::Bad(20, p);
+        return Err(Fault::Misuse(p));
     }
-    let k = find_entry(program, texts, words, grants, t, key);
-    if k == 0 {
-        return Answer::Bad(20, p);
+    match find_entry(program, texts, words, grants, t, key) {
+        None => Err(Fault::Misuse(p)),
+        Some(k) => {
+            let w = words[entry_place(grants, k) + 2];
+            frames::variables::usable(words, w, p)?;
+            Ok(values::unpack(w))
+        }
     }
-    let w = words[entry_place(grants, k - 1) + 2];
-    if frames::variables::is_dead(words, w) {
-        return Answer::Bad(30, p);
-    }
-    Answer::Good(values::unpack(w))
 }
 
 // An entry's words at a place, first in the bucket whose head stands at another.
@@ -127,76 +126,72 @@ fn put_entry(words: &mut [u64], at: usize, head: usize, t: u32, key: u64, value:
     words[head] = number;
 }
 
-// A new entry; not if none is left.
+// A new entry, if one is left.
 fn add_entry<'a>(
     program: &'a [u8],
     texts: &'a [u8],
     words: &mut [u64],
     grants: &[u64; 5],
+    p: u64,
     t: u32,
     key: u64,
     value: u64,
-) -> bool
+) -> Result<(), Fault>
     requires { Room grants.now words.old }
-    ensures { PassesIn texts.now words.old 77 (add_entry program.now grants.now t key value) result words.new }
+    ensures { DoesIn texts.now words.old (add_entry program.now grants.now t key value p) result texts.now words.new }
 {
-    let used = words[counters::ENTRIES];
+    let made = words[counters::ENTRIES_MADE];
     let size = grants[granted::ENTRIES];
-    if size <= used {
-        return false;
-    }
-    let n = words[counters::ENTRIES_MADE] % size;
     let b = bucket(program, texts, words, grants, t, key);
+    stores::counters::pay_one(words, counters::ENTRIES, size, Fault::NoEntryLeft(p))?;
+    let n = made % size;
     let at = entry_place(grants, n as usize);
     let head = entry_place(grants, b) + 3;
-    words[counters::ENTRIES] = used + 1;
     words[counters::ENTRIES_MADE] = n + 1;
     put_entry(words, at, head, t, key, value, n + 1);
-    true
+    Ok(())
 }
 
-// Overwrites the value of an entry, or adds one; not if none is left.
+// Overwrites the value of an entry, or adds one.
 fn put_value<'a>(
     program: &'a [u8],
     texts: &'a [u8],
     words: &mut [u64],
     grants: &[u64; 5],
+    p: u64,
     t: u32,
     key: u64,
     value: u64,
-) -> bool
+) -> Result<(), Fault>
     requires { Room grants.now words.old }
-    ensures { PassesIn texts.now words.old 77
-        (putting program.now grants.now texts.now words.old t key value) result words.new }
+    ensures { DoesIn texts.now words.old
+        (putting program.now grants.now texts.now words.old t key value p) result texts.now words.new }
 {
-    let found = find_entry(program, texts, words, grants, t, key);
-    if found == 0 {
-        let ok = add_entry(program, texts, words, grants, t, key, value);
-        return ok;
+    match find_entry(program, texts, words, grants, t, key) {
+        None => add_entry(program, texts, words, grants, p, t, key, value),
+        Some(k) => {
+            words[entry_place(grants, k) + 2] = value;
+            Ok(())
+        }
     }
-    let at = entry_place(grants, found - 1);
-    words[at + 2] = value;
-    true
 }
 
-// An update: 20 if the key is a group, 77 if no entry is left; else 0.
+// An update: a group is no key.
 pub fn store_entry<'a>(
     program: &'a [u8],
     texts: &'a [u8],
     words: &mut [u64],
     grants: &[u64; 5],
+    p: u64,
     t: u32,
     key: u64,
     value: u64,
-) -> u64
+) -> Result<(), Fault>
     requires { Room grants.now words.old }
-    ensures { Stores program.now grants.now texts.now words.old t key value result words.new }
+    ensures { DoesIn texts.now words.old (store_entry program.now grants.now t key value p) result texts.now words.new }
 {
     if keys::is_group_key(words, key) {
-        return 20;
+        return Err(Fault::Misuse(p));
     }
-    if !put_value(program, texts, words, grants, t, key, value) {
-        return 77;
-    }
-    0
+    put_value(program, texts, words, grants, p, t, key, value)
 }

@@ -14,10 +14,8 @@ fn hash_bytes(h: u32, s: &[u8]) -> u32
     ensures { result ≡ hash_from h s.now }
 {
     let mut hash = h;
-    let mut i = 0;
-    while i < s.len() {
-        hash = hash_number(hash, s[i] as u32);
-        i += 1;
+    for &x in s {
+        hash = hash_number(hash, x as u32);
     }
     hash
 }

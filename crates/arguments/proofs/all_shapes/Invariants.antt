@@ -1,10 +1,6 @@
-use Prim.Native.Nat.{◌-◌}
 use Rattle.machine.specs.Library.{all_shapes}
 use Rattle.arguments.proofs.ArgumentLaws.{Asking}
 use Rattle.arguments.proofs.all_shapes.Given as goal
 
 abbrev pub invariant-loop-k : goal.invariant-loop-k
-invariant-loop-k l = Asking all_shapes l.words l.base l.n l.k
-
-abbrev pub decreases-loop-k : goal.decreases-loop-k
-decreases-loop-k l = l.n - l.k
+invariant-loop-k l = Asking (all_shapes l.p) l.words l.base l.n l.k

@@ -1,10 +1,6 @@
 use Rattle.machine.specs.Arguments.{all_usable}
-use Prim.Native.Nat.{◌-◌}
 use Rattle.arguments.proofs.ArgumentLaws.{Asking}
 use Rattle.arguments.proofs.all_usable.Given as goal
 
 abbrev pub invariant-loop-k : goal.invariant-loop-k
-invariant-loop-k l = Asking all_usable l.words l.base l.n l.k
-
-abbrev pub decreases-loop-k : goal.decreases-loop-k
-decreases-loop-k l = l.n - l.k
+invariant-loop-k l = Asking (all_usable l.p) l.words l.base l.n l.k
