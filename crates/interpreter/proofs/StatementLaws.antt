@@ -19,9 +19,11 @@ use Rattle.machine.specs.declared.Answer.TheVariants.{Good, Bad}
 use Rattle.machine.specs.Words.{kind_in, kind_shape, packed, unpacked}
 use Rattle.machine.specs.Layout.{fixed_words, steps_granted, Room}
 use Rattle.machine.specs.Layout as Layout
-use Rattle.machine.specs.Act.{Raw, raw, Out, stop, Act, go_on, ◌>>=◌, give, fail, count, shown, passed, Passes}
+use Rattle.machine.specs.Act.{Raw, raw, Out, stop, Act, go_on, ◌>>=◌, give, fail, count, shown, out_of, DoesIn, passed, Passes}
 use Rattle.machine.specs.Tables.{store_entry}
-use Rattle.tables.specs.Asked.{Stores}
+use Rattle.std.specs.Prelude.{Result, Ok, Err}
+use Rattle.machine.specs.declared.Fault.{Fault}
+use Rattle.machine.specs.Fault.{number_of, place_of}
 use Rattle.machine.specs.Operate.{with_table}
 use Rattle.fastpath.specs.Fast.{Values}
 use Rattle.machine.specs.Evaluate.{Evaluator, Setting, setting}
@@ -164,14 +166,14 @@ module _ (program code g : List ℕ) (p : ℕ) (ts ws : List ℕ) (fuel y wy b w
       unfolding shown_flow
       value_stops n q f = sym (with_key ∙ stops _ h₃ f)
 
-      module _ (v₃ : Value) (k : ℕ) (f₃ : r₃ ≡ Good v₃) (e₃ : k ≡ packed v₃) (number : ℕ) (ws₄ : List ℕ) (d : Stores program g ts₃ ws₃ t key k number ws₄) where
-        pub update_refused : (number ≡ 0 → ⊥) → shown_flow (Stopped number p) ts₃ ws₄ ≡ update_at (expression_at fuel (setting program code g)) (setting program code g) y p (raw ts ws)
-        unfolding ◌>>=◌ go_on passed shown_flow
-        update_refused c = sym (with_key ∙ goes_on _ h₃ f₃ ∙ rw (← e₃, ← d.equal p, ne_eqb _ _ c))
+      module _ (v₃ : Value) (k : ℕ) (f₃ : r₃ ≡ Good v₃) (e₃ : k ≡ packed v₃) (s : Result (Unit {0}) Fault) (ws₄ : List ℕ) (d : DoesIn ts₃ ws₃ (store_entry program g t key k p) s ts₃ ws₄) where
+        pub update_refused : (x : Fault) (m q : ℕ) → s ≡ Err x → m ≡ number_of x → q ≡ place_of x → shown_flow (Stopped m q) ts₃ ws₄ ≡ update_at (expression_at fuel (setting program code g)) (setting program code g) y p (raw ts ws)
+        unfolding ◌>>=◌ go_on out_of shown_flow
+        update_refused x m q c i j = sym (with_key ∙ goes_on _ h₃ f₃ ∙ rw (← e₃, ← d.equal, c, i, j))
 
-        pub update_done : number ≡ 0 → shown_flow Onward ts₃ ws₄ ≡ update_at (expression_at fuel (setting program code g)) (setting program code g) y p (raw ts ws)
-        unfolding ◌>>=◌ go_on passed give shown_flow
-        update_done c = sym (with_key ∙ goes_on _ h₃ f₃ ∙ rw (← e₃, ← d.equal p, c))
+        pub update_done : {a : Unit {0}} → s ≡ Ok a → shown_flow Onward ts₃ ws₄ ≡ update_at (expression_at fuel (setting program code g)) (setting program code g) y p (raw ts ws)
+        unfolding ◌>>=◌ go_on out_of give shown_flow
+        update_done c = sym (with_key ∙ goes_on _ h₃ f₃ ∙ rw (← e₃, ← d.equal, c))
 
 -- ---- at a fuel
 module _ (program code g : List ℕ) (x : ℕ) (ts ws : List ℕ) (fuel : ℕ) where
