@@ -1,16 +1,13 @@
 -- One law for each way through each function on statements, and through a call.
-use Prim.Native.Nat.{ℕ, suc, ◌+◌, ◌-◌, ◌^◌, ◌≤◌, ◌<◌}
+use Prim.Native.Nat.{ℕ, suc, ◌+◌, ◌-◌, ◌≤◌, ◌<◌}
 use mathlib.Core.Path.{◌≡◌, refl, sym, ◌∙◌}
 use mathlib.Core.Bool.{Bool, true, false, not}
-use mathlib.Core.List.{List, [], ◌∷◌}
-use mathlib.Core.Logic.{⊎_elim}
+use mathlib.Core.List.{List}
 use native.Mathlib.Omega.{arith}
 use lib.ListN.{get_or, length, take, drop}
 use borrow.Author.Rules.{part_to_end}
-use denote.Enum.Declared.{tag_of}
 use borrow.Author.Tests.{lt-ltb, le-ltb, ne_eqb, not-true, not-false}
 use Rattle.meaning.specs.Basics.{if◌then◌otherwise◌}
-use Rattle.machine.specs.contracts.Value as value
 use Rattle.machine.specs.Opcodes.{tag_in, size_in, place_in, extra_in, tag_declare, tag_update, tag_when, tag_while, tag_foreach, tag_return, tag_block}
 use Rattle.machine.specs.declared.Value.{Value}
 use Rattle.machine.specs.declared.Value.TheVariants.{Integer, Text, Boolean, Nothing, Table, Shape}
@@ -18,8 +15,7 @@ use Rattle.machine.specs.declared.Answer.{Answer}
 use Rattle.machine.specs.declared.Answer.TheVariants.{Good, Bad}
 use Rattle.machine.specs.Words.{kind_in, kind_shape, packed, unpacked}
 use Rattle.machine.specs.Layout.{fixed_words, steps_granted, Room}
-use Rattle.machine.specs.Layout as Layout
-use Rattle.machine.specs.Act.{Raw, raw, Out, stop, Act, go_on, ◌>>=◌, give, fail, count, shown, out_of, DoesIn, passed, Passes}
+use Rattle.machine.specs.Act.{Raw, raw, Out, stop, Act, go_on, ◌>>=◌, give, fail, count, shown, out_of, DoesIn, Passes}
 use Rattle.machine.specs.Tables.{store_entry}
 use Rattle.std.specs.Prelude.{Result, Ok, Err}
 use Rattle.machine.specs.declared.Fault.{Fault}
@@ -33,14 +29,14 @@ use Rattle.machine.specs.declared.Outcome.{Outcome}
 use Rattle.machine.specs.declared.Outcome.TheVariants as outcome
 use Rattle.machine.specs.Effects.{shown_flow, shown_test, Flows, declaring, finishing, outcome_in, saying}
 use Rattle.machine.specs.Execute.{Executor, simple_at, update_value, update_in, update_at, test_of, continue, when_at, turning, looping, repeat_at, foreach_at, statements_from, counted_at, statement_by}
-use Rattle.machine.specs.Interpret.{expression_at, statement_at, body_at, invoke_at}
+use Rattle.machine.specs.Interpret.{expression_at, statement_at, body_at}
 use Rattle.stores.proofs.Acts.{after_pass, after_refusal}
 use Rattle.results.proofs.Acts.{goes_on, stops}
 use Rattle.effects.proofs.Acts.{flow_on, flow_returns, flow_stops, test_holds, test_fails, test_stops}
 use Rattle.interpreter.proofs.ExpressionLaws as laws
 use Rattle.interpreter.proofs.Fast.{Fast, plain, evaluates, unchanged}
 use Rattle.effects.proofs.Laws.{is_return}
-use Rattle.interpreter.specs.Asked.{Lent, Runs, Leaves, Body}
+use Rattle.interpreter.specs.Asked.{Lent, Runs, Leaves}
 use Rattle.interpreter.specs.Ended.{given, answer_of, Ended}
 
 -- ---- what is lent stays as long
