@@ -13,7 +13,7 @@ use Rattle.machine.specs.declared.Flow.TheVariants.{Onward, Returned, Stopped}
 use Rattle.machine.specs.Layout.{arguments_held}
 use Rattle.machine.specs.Act.{Raw, raw, Out, done, stop, Act, go_on, ◌>>=◌, give, load, shown, Answers, Gives}
 use Rattle.machine.specs.Effects.{shown_flow}
-use Rattle.machine.specs.Evaluate.{setting}
+use Rattle.machine.specs.Evaluate.{Setting, setting}
 use Rattle.machine.specs.Execute.{statements_from}
 use Rattle.machine.specs.Procedures.{begin, resume, result_of, procedure_at}
 use Rattle.machine.specs.Interpret.{statement_at, body_at, invoke_at}

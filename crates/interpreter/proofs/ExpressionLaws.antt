@@ -6,7 +6,7 @@ use mathlib.Core.List.{List}
 use native.Mathlib.Omega.{arith}
 use lib.ListN.{get_or, length}
 use lib.Dec.{ltb}
-use borrow.Author.Tests.{lt-ltb, le-ltb, ltb-true, ne_eqb, not-true, not-false}
+use borrow.Author.Tests.{lt-ltb, le-ltb, ltb-true, ltb-false, ne_eqb, not-true, not-false}
 use Rattle.meaning.specs.Basics.{if◌then◌otherwise◌}
 use Rattle.machine.specs.Opcodes.{tag_in, size_in, number_in, library_in, callee_in, argument_root, tag_table, tag_call}
 use Rattle.machine.specs.declared.Value.{Value}
@@ -14,8 +14,8 @@ use Rattle.machine.specs.declared.Value.TheVariants.{Nothing}
 use Rattle.machine.specs.declared.Answer.{Answer}
 use Rattle.machine.specs.declared.Answer.TheVariants.{Good, Bad}
 use Rattle.machine.specs.Words.{packed}
-use Rattle.machine.specs.Layout.{arguments_held, Lent}
-use Rattle.machine.specs.Act.{raw, Out, done, go_on, ◌>>=◌, give, fail, refuse, load, count, shown, Answers, Passes}
+use Rattle.machine.specs.Layout.{arguments_held, Room, Lent}
+use Rattle.machine.specs.Act.{raw, Out, done, Act, go_on, ◌>>=◌, give, fail, refuse, load, count, shown, Answers, Passes}
 use Rattle.machine.specs.Primaries.{leaf, sized, lacks_table, applied, push_word, called}
 use Rattle.machine.specs.Evaluate.{Evaluator, Setting, setting, argument_of, argument_after, arguments_from, invoked, call_at, second_of, first_of, operands_at, expression_by}
 use Rattle.machine.specs.Interpret.{expression_at, invoke_at, body_at}

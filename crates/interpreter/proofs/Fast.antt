@@ -19,7 +19,7 @@ use Rattle.machine.specs.Opcodes.{tag_add, tag_subtract, tag_multiply, tag_divid
 use Rattle.machine.specs.declared.Value.{Value}
 use Rattle.machine.specs.declared.Value.TheVariants.{Integer, Text, Boolean, Shape}
 use Rattle.machine.specs.declared.Answer.{Answer}
-use Rattle.machine.specs.declared.Answer.TheVariants.{Good}
+use Rattle.machine.specs.declared.Answer.TheVariants.{Good, Bad}
 use Rattle.machine.specs.Words.{kind_in, packed, unpacked}
 use Rattle.machine.specs.Words as Words
 use Rattle.values.proofs.Laws.{InRange, unpacked_packed, unpacked_integer, unpacked_truth, unpacked_shape}

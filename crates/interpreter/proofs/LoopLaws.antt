@@ -2,11 +2,14 @@
 use Prim.Native.Nat.{ℕ, suc, ◌+◌, ◌-◌, ◌<◌}
 use mathlib.Core.Path.{◌≡◌, refl, sym, ◌∙◌}
 use mathlib.Core.Bool.{Bool, true, false, not}
-use mathlib.Core.List.{List}
+use mathlib.Core.List.{List, [], ◌∷◌}
+use mathlib.Core.Logic.{⊎_elim}
 use native.Mathlib.Omega.{arith}
-use lib.ListN.{set, length}
+use lib.ListN.{get_or, set, length}
+use denote.Enum.Declared.{tag_of}
 use borrow.Author.Tests.{ne_eqb, not-true, not-false}
 use Rattle.meaning.specs.Basics.{if◌then◌otherwise◌}
+use Rattle.machine.specs.contracts.Value as value
 use Rattle.machine.specs.declared.Value.{Value}
 use Rattle.machine.specs.declared.Value.TheVariants.{Integer, Text, Boolean, Nothing, Table, Shape}
 use Rattle.machine.specs.declared.Answer.{Answer}
@@ -15,7 +18,7 @@ use Rattle.machine.specs.declared.Flow.{Flow}
 use Rattle.machine.specs.declared.Flow.TheVariants.{Onward, Returned, Stopped}
 use Rattle.machine.specs.Words.{packed}
 use Rattle.machine.specs.Layout.{loop_unit, steps_granted}
-use Rattle.machine.specs.Act.{raw, Out, stop, Act, go_on, ◌>>=◌, give, fail, refuse, store, held, count, shown, Passes, Gives}
+use Rattle.machine.specs.Act.{Raw, raw, Out, stop, Act, go_on, ◌>>=◌, give, fail, refuse, store, held, count, shown, Passes, Gives}
 use Rattle.machine.specs.Shapes.{is_group_at, destroyed_at}
 use Rattle.machine.specs.Groups.{component_at, first_at, count_at}
 use Rattle.machine.specs.Variables.{is_dead, usable, set_variable}

@@ -1,4 +1,4 @@
-use Prim.Native.Nat.{◌+◌, ◌-◌, ◌*◌}
+use Prim.Native.Nat.{◌+◌, ◌-◌, ◌*◌, ◌<◌}
 use Rattle.interpreter.proofs.ExpressionLaws.{Pushing}
 use Rattle.interpreter.proofs.StatementLaws.{Looping}
 use Rattle.interpreter.proofs.StatementLaws.{Following}
