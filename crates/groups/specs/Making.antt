@@ -5,7 +5,7 @@ use Rattle.machine.specs.declared.Value.{Value}
 use Rattle.machine.specs.declared.Value.TheVariants.{Shape}
 use Rattle.machine.specs.Layout.{entries_used, components_made, entries_granted, component_place, Room}
 use Rattle.machine.specs.Act.{Does, Act, ◌>>=◌, ◌>>◌, give, load, store, spend}
-use Rattle.machine.specs.Groups.{slot_word, first_at, count_at, unmarked, new_group, group_waiting}
+use Rattle.machine.specs.Groups.{slot_word, first_at, count_at, unmarked, new_group}
 
 -- the component whose number stands above so many bits, unit, of the word at a place, with n behind it, on no loop's way
 unfoldable pub add_one : List ℕ → ℕ → ℕ → ℕ → ℕ → Act (Unit {0})
@@ -36,11 +36,3 @@ copy_group g p i ws = grouping g p 1 1 (component_place g (first_at ws i)) (coun
 pub record Adds (g : List ℕ) (p : ℕ) (ws : List ℕ) (unit place n : ℕ) (answer : Result (Unit {0}) Fault) (ws' : List ℕ) : Type 0 where
   pub does : Does ws (add_one g unit place n p) answer ws'
   pub used : answer ≡ Ok tt → (get_or ws' entries_used 0 ≡ get_or ws entries_used 0 + 1) × (get_or ws entries_used 0 < 2 ^ 16)
-
--- a group made, whatever its number
-unfoldable pub making : List ℕ → ℕ → ℕ → ℕ → ℕ → ℕ → Act (Unit {0})
-making g stride unit place n p = new_group g p stride unit place n >>= λ j. give tt
-
--- a group of those that wait, whatever its number
-unfoldable pub gathering : List ℕ → ℕ → ℕ → Act (Unit {0})
-gathering g m p = group_waiting g p m >>= λ j. give tt

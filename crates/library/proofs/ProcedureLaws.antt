@@ -1,6 +1,6 @@
 -- Library procedures.
 use Prim.Native.Nat.{ℕ, ◌+◌, ◌^◌, ◌≤◌, ◌<◌}
-use mathlib.Core.Path.{◌≡◌, ◌∙◌, refl, ap, sym}
+use mathlib.Core.Path.{◌≡◌, ◌∙◌, refl, sym}
 use mathlib.Core.Bool.{Bool, true, false, not, ◌&&◌, cond}
 use mathlib.Core.List.{List}
 use native.Mathlib.Omega.{arith}
@@ -15,16 +15,15 @@ use Rattle.machine.specs.declared.Value.{Value}
 use Rattle.machine.specs.declared.Value.TheVariants.{Integer, Nothing}
 use Rattle.std.specs.Prelude.{Result, Ok, Err}
 use Rattle.machine.specs.declared.Fault.{Fault}
-use Rattle.machine.specs.declared.Fault.TheVariants.{Misuse, Numbered}
+use Rattle.machine.specs.declared.Fault.TheVariants.{Misuse}
 use Rattle.machine.proofs.Acts.{goes, taken}
 use Rattle.machine.specs.Words.{kind_in, number_in, handle_in, unpacked}
 use Rattle.machine.specs.declared.Figure.{Figure}
-use Rattle.machine.specs.Act.{Raw, raw, Out, done, stop, Act, go_on, ◌>>=◌, give, fail, refuse, held, out_of, passed, Does}
+use Rattle.machine.specs.Act.{Raw, raw, done, stop, Act, go_on, ◌>>=◌, give, fail, refuse, held, out_of, Does}
 use Rattle.machine.specs.Stack.{argument_at}
 use Rattle.machine.specs.Layout.{argument_place}
 use Rattle.machine.specs.Shapes.{is_group_at, figure_at, new_shape}
 use Rattle.machine.specs.Groups.{destroy_all}
-use Rattle.walks.specs.Walks.{Ends}
 use Rattle.groups.specs.Making.{grouping}
 use Rattle.machine.specs.Variables.{clear_scene}
 use Rattle.machine.specs.Operate.{with_integer, with_text}
@@ -178,16 +177,6 @@ module _ (ws g : List ℕ) (p base n : ℕ) where
   label_made {b} {f} {r} {ws'} k e h q a = rw k (made g ws (labelled g p base 2) p (figure_and_text ws base) b (label_figure ws base) e (λ ts. labelled_by g ts ws p base) r f ws' h q a)
 
 -- ---- a centre, a shape destroyed, the scene cleared, a group
--- behind an act that ends with a number nothing is given
-module _ (ws ws' : List ℕ) (act : ℕ → Act (Unit {0})) (r : ℕ) (h : Ends ws act r ws') (p : ℕ) (ts : List ℕ) where
-  all_done : r ≡ 0 → (act p >>= λ _. give Nothing) (raw ts ws) ≡ done Nothing (raw ts ws')
-  unfolding ◌>>=◌ go_on passed give
-  all_done z = ap (λ (o : Out (Unit {0})). go_on o (λ _. give Nothing)) (sym (h.equal p ts)) ∙ rw z
-
-  broken_off : (r ≡ 0 → ⊥) → (act p >>= λ _. give Nothing) (raw ts ws) ≡ stop r p (raw ts ws')
-  unfolding ◌>>=◌ go_on passed
-  broken_off z = ap (λ (o : Out (Unit {0})). go_on o (λ _. give Nothing)) (sym (h.equal p ts)) ∙ rw (ne_eqb r 0 z)
-
 module _ (ws : List ℕ) (p base n : ℕ) where
   module _ (f : Figure → ℤ) where
     pub coordinate_count : (n ≡ 1 → ⊥) → Does ws (coordinate f p base n) (Err (Misuse p)) ws
@@ -222,27 +211,16 @@ module _ (g ws : List ℕ) (p base n : ℕ) where
     unfolding out_of
     destroy_kind h = rw k (record { equal = λ ts. sym (destroyed_by ts ∙ rw (← e, not-true b h)) })
 
-    module _ (h : not b ≡ false) {i r : ℕ} {ws' : List ℕ} (q : i ≡ shape_at ws base 0) (d : Ends ws (λ p. destroy_all g p i) r ws') where
-      pub destroy_done : r ≡ 0 → Does ws (destroyed g p base n) (Ok Nothing) ws'
-      unfolding out_of
-      destroy_done z = rw k (record { equal = λ ts. sym (destroyed_by ts ∙ rw (← e, not-false b h, ← q) (all_done ws ws' (λ p. destroy_all g p i) r d p ts z)) })
-
-      pub destroy_stops : (r ≡ 0 → ⊥) → Does ws (destroyed g p base n) (Err (Numbered r p)) ws'
-      unfolding out_of
-      destroy_stops z = rw k (record { equal = λ ts. sym (destroyed_by ts ∙ rw (← e, not-false b h, ← q) (broken_off ws ws' (λ p. destroy_all g p i) r d p ts z)) })
+    pub destroys : b ≡ true → {i : ℕ} {r : Result Value Fault} {ws' : List ℕ} → i ≡ shape_at ws base 0 → Does ws (destroy_all g p i >>= λ _. give Nothing) r ws' → Does ws (destroyed g p base n) r ws'
+    destroys h q d = rw k (record { equal = λ ts. (rw q at d).equal ts ∙ sym (destroyed_by ts ∙ rw (← e, h)) })
 
   pub clear_count : (n ≡ 0 → ⊥) → Does ws (clearing g p n) (Err (Misuse p)) ws
   unfolding clearing ◌>>=◌ go_on refuse fail out_of
   clear_count h = record { equal = λ ts. rw (ne_eqb _ _ h) }
 
-  module _ (k : n ≡ 0) {r : ℕ} {ws' : List ℕ} (d : Ends ws (clear_scene g) r ws') where
-    pub clear_done : r ≡ 0 → Does ws (clearing g p n) (Ok Nothing) ws'
-    unfolding clearing ◌>>=◌ go_on refuse give out_of
-    clear_done z = rw k (record { equal = λ ts. sym (all_done ws ws' (clear_scene g) r d p ts z) })
-
-    pub clear_stops : (r ≡ 0 → ⊥) → Does ws (clearing g p n) (Err (Numbered r p)) ws'
-    unfolding clearing ◌>>=◌ go_on refuse give out_of
-    clear_stops z = rw k (record { equal = λ ts. sym (broken_off ws ws' (clear_scene g) r d p ts z) })
+  pub clears : n ≡ 0 → {r : Result Value Fault} {ws' : List ℕ} → Does ws (clear_scene g p >>= λ _. give Nothing) r ws' → Does ws (clearing g p n) r ws'
+  unfolding clearing ◌>>=◌ go_on refuse give
+  clears k d = rw k (record { equal = d.equal })
 
   pub group_made : {r : Result Value Fault} {at : ℕ} {ws' : List ℕ} → Does ws (all_shapes p base n) (Ok tt) ws → at ≡ argument_place (base + 0) → Does ws (grouping g p 1 8 at n) r ws'
       → Does ws (grouped g p base n) r ws'

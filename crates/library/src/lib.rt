@@ -113,10 +113,7 @@ fn destroy(words: &mut [u64], grants: &[u64; 5], p: u64, base: u64, n: u64) -> R
         return Err(Fault::Misuse(p));
     }
     let i = arguments::shape_at(words, base, 0);
-    let number = destroying::destroy_all(words, grants, i);
-    if number != 0 {
-        return Err(Fault::Numbered(number, p));
-    }
+    destroying::destroy_all(words, grants, p, i)?;
     Ok(Value::Nothing)
 }
 
@@ -127,10 +124,7 @@ fn clear(words: &mut [u64], grants: &[u64; 5], p: u64, n: u64) -> Result<Value, 
     if n != 0 {
         return Err(Fault::Misuse(p));
     }
-    let number = destroying::scene::clear_scene(words, grants);
-    if number != 0 {
-        return Err(Fault::Numbered(number, p));
-    }
+    destroying::scene::clear_scene(words, grants, p)?;
     Ok(Value::Nothing)
 }
 

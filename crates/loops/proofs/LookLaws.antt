@@ -1,17 +1,17 @@
 -- Looking for the next figure: the loop does what the search does, as with walks.
-use Rattle.std.proofs.Common.{◌≡◌, ℕ, zero, suc, ◌+◌, ◌-◌, ◌^◌, ◌<◌, Bool, true, false, not, eqb, ltb, List, [], length, get_or, set, sym, refl, ap, ◌∙◌, arith, length-set, get_or-set_other, get_or-set_same, le-ltb, lt-ltb, ne_eqb}
-use borrow.Author.Tests.{not-true, not-false, eqb-false}
+use Rattle.std.proofs.Common.{◌≡◌, ℕ, zero, suc, ◌+◌, ◌-◌, ◌^◌, ◌<◌, Bool, true, false, eqb, ltb, List, [], length, get_or, set, sym, refl, ap, ◌∙◌, arith, length-set, get_or-set_other, get_or-set_same, le-ltb, lt-ltb, ne_eqb}
+use borrow.Author.Tests.{eqb-false}
 use Rattle.meaning.specs.Basics.{if◌then◌otherwise◌}
 use Rattle.machine.specs.Layout.{shapes_granted, shape_place}
 use Rattle.machine.specs.Act.{Gives, Raw, raw, Out, done, stop, Act, go_on, ◌>>=◌, ◌>>◌, give, load, store, held}
 use Rattle.machine.specs.Shapes.{is_group_at}
 use Rattle.machine.specs.Groups.{component_at, first_at, count_at, way_word, way_place}
 use Rattle.machine.specs.Loops.{hollow, mark_place, mark, unmark, look_from, look_under}
-use Rattle.walks.specs.declared.Turn.{Turn}
-use Rattle.walks.specs.declared.Turn.TheVariants.{At, Stopped}
-use Rattle.walks.specs.Walks.{slot_in, left_in, Walks, count_within, WalksBy, owed_by, Under, back_at, Entered}
-use Rattle.walks.proofs.TurnLaws.{room_same, count_small, count_deep, walks_same, way_at, less_one_lem}
-use Rattle.loops.specs.Looking.{passed_over, inside_at, look_level, give_up, look_above, look_rest, look_by, within, SmallBy, Looked}
+use Rattle.std.proofs.Common.{Continue, Break}
+use Rattle.walks.specs.declared.Walk.{Walk}
+use Rattle.walks.specs.Walks.{slot_in, left_in, Walks, count_within, Under, past, back_at, down_in, Entered}
+use Rattle.walks.proofs.TurnLaws.{walk_at, room_same, count_small, count_deep, walks_same, way_at, less_one_lem}
+use Rattle.loops.specs.Looking.{passed_over, inside_at, look_level, give_up, look_above, look_rest, look_by, within, looks_within, left_to_look, Looked}
 use Rattle.walks.proofs.WalkLaws.{Keeps, keeps_from, keeps_then, keeps_either, kept_way, slot_back, left_back, advance_less, climb_less, descend_less, owed_some}
 
 -- ---- the way is kept
@@ -162,8 +162,9 @@ module _ (g ws : List ℕ) where
       (sym (h.equal []))
 
   module _ (k n : ℕ) (z : n ≡ 0) (ws' : List ℕ) where
-    looking_up : (d : ℕ) → Walks g ws (suc d) k n → Gives ws (give_up g (slot_in (get_or ws (way_place d) 0))) tt ws' → length ws' ≡ length ws → Looked g ws (suc d) k n (back_at ws d) ws'
-    unfolding look_by back_at WalksBy owed_by SmallBy
+    looking_up : (d : ℕ) → Walks g ws (walk_at (suc d) k n) → Gives ws (give_up g (slot_in (get_or ws (way_place d) 0))) tt ws' → length ws' ≡ length ws
+        → Looked g ws (walk_at (suc d) k n) (Continue (back_at ws d)) ws'
+    unfolding look_by back_at looks_within left_to_look
     looking_up d w h l =
         let deep = w.deep in
         let kept = give_up_kept (slot_in (get_or ws (way_place d) 0)) ws' h in
@@ -172,39 +173,33 @@ module _ (g ws : List ℕ) where
         record {
           equal = λ ts. rw z (sym (look_climbs g d k (raw ts ws) (raw ts ws') (sym (h.equal ts))));
           walks = walks_same g ws ws' (suc d) d k _ n _ w l kept (omega arith) (λ q. omega arith) (omega (arith, b)) (omega arith);
-          small = tt;
           less = rw (z, ← same) (climb_less (shapes_granted g) ws ws' d (λ e q. kept e (omega arith)));
         }
 
-    pub look_up : (d s : ℕ) → Under g ws d k n → s ≡ slot_in (get_or ws (way_place (d - 1)) 0) → Gives ws (give_up g s) tt ws' → length ws' ≡ length ws → (t : Turn) → t ≡ back_at ws (d - 1)
-        → Looked g ws d k n t ws'
-    look_up zero s u f h l t e = absurd (u.more (omega arith))
-    look_up (suc d) s u f h l t e = rw (e, less_one_lem d) (looking_up d u.walks (rw (f, less_one_lem d) at h) l)
+    up_from : (d s : ℕ) → Under g ws (walk_at d k n) → s ≡ slot_in (get_or ws (way_place (d - 1)) 0) → Gives ws (give_up g s) tt ws' → length ws' ≡ length ws → (t : Walk) → t ≡ back_at ws (d - 1)
+        → Looked g ws (walk_at d k n) (Continue t) ws'
+    up_from zero s u f h l t e = absurd (u.more (omega arith))
+    up_from (suc d) s u f h l t e = rw (e, less_one_lem d) (looking_up d u.walks (rw (f, less_one_lem d) at h) l)
 
   module _ (d k : ℕ) (c : ℕ) (e : c ≡ component_at g ws k) (b : Bool) (f : b ≡ passed_over ws c) where
     -- ---- on
-    looking_on : (n : ℕ) → Under g ws d k (suc n) → b ≡ true → Looked g ws d k (suc n) (At d (k + 1) n) ws
-    unfolding look_by WalksBy owed_by SmallBy
-    looking_on n u t = record {
+    on_from : (n : ℕ) → Under g ws (walk_at d k n) → (n ≡ 0 → ⊥) → b ≡ true → Looked g ws (walk_at d k n) (Continue (walk_at d (k + 1) (n - 1))) ws
+    unfolding look_by looks_within left_to_look
+    on_from zero u z t = absurd (z refl)
+    on_from (suc n) u z t = rw (less_one_lem n) record {
       equal = λ ts. sym (look_passes g d k n (raw ts ws) c e (sym f ∙ t));
       walks = walks_same g ws ws d d k (k + 1) (suc n) n u.walks refl (λ e h. refl) (omega arith) (λ h. u.walks.within (omega arith))
           (omega (arith, u.walks.small)) (omega (arith, u.walks.few));
-      small = tt;
       less = advance_less (shapes_granted g) ws ws d n (λ e h. refl);
     }
 
-    pub look_on : (n : ℕ) → Under g ws d k n → (n ≡ 0 → ⊥) → b ≡ true → Looked g ws d k n (At d (k + 1) (n - 1)) ws
-    look_on zero u z t = absurd (z refl)
-    look_on (suc n) u z t = rw (less_one_lem n) (looking_on n u t)
-
     module _ (t : b ≡ false) (a : Bool) (i : a ≡ is_group_at ws c) where
-      pub look_found : (n : ℕ) → Under g ws d k n → (n ≡ 0 → ⊥) → not a ≡ true → Looked g ws d k n (Stopped (k + 1)) ws
-      unfolding look_by WalksBy owed_by SmallBy
-      look_found zero u z v = absurd (z refl)
-      look_found (suc n) u z v = record {
-        equal = λ ts. sym (look_finds g d k n (raw ts ws) c e (sym f ∙ t) (sym i ∙ not-true a v));
-        walks = λ x. omega arith;
-        small = omega (arith, u.walks.small);
+      found_from : (n : ℕ) → (n ≡ 0 → ⊥) → a ≡ false → Looked g ws (walk_at d k n) (Break (k + 1)) ws
+      unfolding look_by looks_within left_to_look
+      found_from zero z v = absurd (z refl)
+      found_from (suc n) z v = record {
+        equal = λ ts. sym (look_finds g d k n (raw ts ws) c e (sym f ∙ t) (sym i ∙ v));
+        walks = tt;
         less = owed_some (shapes_granted g) ws d (suc n);
       }
 
@@ -213,10 +208,9 @@ module _ (g ws : List ℕ) where
         mark_kept : (e : ℕ) → e < shapes_granted g → get_or ws₁ (way_place e) 0 ≡ get_or ws (way_place e) 0
         mark_kept e q = kept_way e (raw [] ws) (mark g k (raw [] ws)) (raw [] ws₁) (keeps_mark g e q k (raw [] ws)) (sym (m.equal []))
 
-        looking_down : (n : ℕ) → Walks g ws d k (suc n) → a ≡ true
-            → Looked g ws d k (suc n)
-            (At (d + 1) (first_at (set ws₁ (way_place d) (way_word k n 0)) c) (count_within g (set ws₁ (way_place d) (way_word k n 0)) (d + 1) c)) (set ws₁ (way_place d) (way_word k n 0))
-        unfolding look_by WalksBy owed_by SmallBy count_within within
+        looking_down : (n : ℕ) → Walks g ws (walk_at d k (suc n)) → a ≡ true
+            → Looked g ws (walk_at d k (suc n)) (Continue (down_in g (set ws₁ (way_place d) (way_word k n 0)) d c)) (set ws₁ (way_place d) (way_word k n 0))
+        unfolding look_by looks_within left_to_look down_in count_within within
         looking_down n w v =
             let deep : d < shapes_granted g = w.within (omega arith) in
             let one : d + 1 ≡ suc d = omega arith in
@@ -237,10 +231,27 @@ module _ (g ws : List ℕ) where
                 few = count_small g ws'' (suc d) c;
                 ways = λ e y. way_at d e y (λ x. rw x (omega (arith, slot, left, w.small))) (λ x. rw (there e x) (w.ways e x));
               };
-              small = tt;
               less = descend_less (shapes_granted g) ws ws'' d n (count_within g ws'' (suc d) c) deep (count_small g ws'' (suc d) c) left there;
             }
 
-        pub look_in_group : (n : ℕ) → Under g ws d k n → (n ≡ 0 → ⊥) → not a ≡ false → (ws'' : List ℕ) (turn : Turn) → Entered g ws₁ d k (n - 1) c turn ws'' → Looked g ws d k n turn ws''
-        look_in_group zero u z v ws'' turn r = absurd (z refl)
-        look_in_group (suc n) u z v ws'' turn r = rw (r.place, r.words, less_one_lem n) (looking_down n u.walks (not-false a v))
+        down_from : (n : ℕ) → Under g ws (walk_at d k n) → (n ≡ 0 → ⊥) → a ≡ true → (ws'' : List ℕ) (down : Walk) → Entered g ws₁ d k (n - 1) c down ws''
+            → Looked g ws (walk_at d k n) (Continue down) ws''
+        down_from zero u z v ws'' down r = absurd (z refl)
+        down_from (suc n) u z v ws'' down r = rw (r.place, r.words, less_one_lem n) (looking_down n u.walks v)
+
+module _ (g ws : List ℕ) (w : Walk) (u : Under g ws w) where
+  pub look_up : (z : w.left ≡ 0) (s : ℕ) (ws' : List ℕ) → s ≡ slot_in (get_or ws (way_place (w.depth - 1)) 0) → Gives ws (give_up g s) tt ws' → length ws' ≡ length ws
+      → (t : Walk) → t ≡ back_at ws (w.depth - 1) → Looked g ws w (Continue t) ws'
+  look_up z s ws' f h l t e = up_from g ws w.slot w.left z ws' w.depth s u f h l t e
+
+  module _ (z : w.left ≡ 0 → ⊥) (c : ℕ) (e : c ≡ component_at g ws w.slot) (b : Bool) (f : b ≡ passed_over ws c) where
+    pub look_on : b ≡ true → (t : Walk) → t ≡ past w → Looked g ws w (Continue t) ws
+    look_on t r q = rw q (on_from g ws w.depth w.slot c e b f w.left u z t)
+
+    module _ (t : b ≡ false) (a : Bool) (i : a ≡ is_group_at ws c) where
+      pub look_found : a ≡ false → Looked g ws w (Break (w.slot + 1)) ws
+      look_found v = found_from g ws w.depth w.slot c e b f t a i w.left z v
+
+      pub look_in_group : (ws₁ : List ℕ) → Gives ws (mark g w.slot) tt ws₁ → length ws₁ ≡ length ws → a ≡ true → {ws'' : List ℕ} {down : Walk}
+          → Entered g ws₁ w.depth w.slot (w.left - 1) c down ws'' → Looked g ws w (Continue down) ws''
+      look_in_group ws₁ m l v {ws''} {down} r = down_from g ws w.depth w.slot c e b f t a i ws₁ m l w.left u z v ws'' down r

@@ -1,32 +1,18 @@
 -- Marks, and the searches that use them: what each way through the code does.
 use Rattle.std.proofs.Common.{◌≡◌, ℕ, suc, ◌+◌, ◌-◌, ◌%◌, ◌^◌, ◌<◌, ◌≤◌, Bool, true, false, not, ◌||◌, eqb, ltb, leb, List, length, get_or, set, sym, refl, ap, ◌∙◌, arith, ltb-true, le-ltb, lt-ltb, ne_eqb}
-use borrow.Author.Tests.{not-true, not-false}
 use Rattle.meaning.specs.Basics.{if◌then◌otherwise◌}
 use Rattle.machine.specs.Layout.{loop_unit, shapes_granted, shape_place, Room}
 use Rattle.machine.specs.Act.{Gives, raw, Out, done, stop, Act, go_on, ◌>>=◌, ◌>>◌, give, store, held}
-use Rattle.machine.specs.Shapes.{is_group_at, destroyed_at}
 use Rattle.machine.specs.Groups.{component_at, followers_at, first_at, count_at}
 use Rattle.machine.specs.Loops.{hollow, mark_place, marked_at, mark, unmark, unmark_from, marked_from, look_under, look_in, look_behind}
 use Rattle.stores.proofs.Turns.{Turns, turns_next, turns_last, from_none}
 use Rattle.stores.proofs.Acts.{after_gift}
-use Rattle.walks.specs.declared.Turn.{Turn}
-use Rattle.walks.specs.declared.Turn.TheVariants.{At, Stopped}
-use Rattle.walks.specs.Walks.{Walks, WalksBy, owed, owed_by, Under}
-use Rattle.loops.specs.Looking.{passed_over, look_level, give_up, look_above, look_rest, look_by, look_after, clear_mark, within, SmallBy, Looked, Starts}
-use Rattle.walks.proofs.TurnLaws.{room_same}
+use Rattle.std.proofs.Common.{Continue, Break}
+use Rattle.walks.specs.declared.Walk.{Walk}
+use Rattle.walks.specs.Walks.{Walks, owed, Under}
+use Rattle.loops.specs.Looking.{look_level, give_up, look_above, look_rest, look_by, look_after, clear_mark, within, looks_within, left_to_look, Looked, Starts}
+use Rattle.walks.proofs.TurnLaws.{walk_at, room_same}
 use Rattle.loops.proofs.LookLaws.{level_any, look_over}
-
--- ---- components passed over
-module _ (ws : List ℕ) (c : ℕ) (b : Bool) (e : b ≡ destroyed_at ws c) where
-  pub gone_passed : b ≡ true → true ≡ passed_over ws c
-  gone_passed t = rw (← e, t)
-
-  module _ (t : b ≡ false) (a : Bool) (f : a ≡ is_group_at ws c) where
-    pub figure_kept : not a ≡ true → false ≡ passed_over ws c
-    figure_kept v = rw (← e, t, ← f, not-true a v)
-
-    pub group_kept : (at w : ℕ) → not a ≡ false → at ≡ shape_place c → w ≡ get_or ws (at + 2) 0 → eqb w 1 ≡ passed_over ws c
-    group_kept at w v i j = rw (← e, t, ← f, not-false a v, j, i)
 
 -- ---- marks
 pub marked_is : (g ws : List ℕ) (k at w : ℕ) → at ≡ mark_place g ws k → w ≡ get_or ws at 0 → leb (get_or ws loop_unit 0) w ≡ marked_at g ws k
@@ -47,13 +33,13 @@ unfolding give_up hollow ◌>>=◌ go_on held store
 gives_up g ws k c ws₁ at ws₂ e h f s = record { equal = λ ts. sym (after_gift (λ _. hollow (component_at g ws k)) ts h ∙ rw (s, f, e)) }
 
 module _ (g ws : List ℕ) (k : ℕ) (b : Bool) (e : b ≡ marked_at g ws k) where
-  pub no_mark : not b ≡ true → Gives ws (clear_mark g k) tt ws
+  pub no_mark : b ≡ false → Gives ws (clear_mark g k) tt ws
   unfolding clear_mark ◌>>=◌ go_on held give if◌then◌otherwise◌
-  no_mark t = record { equal = λ ts. rw (← e, not-true b t) }
+  no_mark t = record { equal = λ ts. rw (← e, t) }
 
-  pub mark_cleared : (ws' : List ℕ) → not b ≡ false → Gives ws (unmark g k) tt ws' → Gives ws (clear_mark g k) tt ws'
+  pub mark_cleared : (ws' : List ℕ) → b ≡ true → Gives ws (unmark g k) tt ws' → Gives ws (clear_mark g k) tt ws'
   unfolding clear_mark ◌>>=◌ go_on held if◌then◌otherwise◌
-  mark_cleared ws' t h = record { equal = λ ts. h.equal ts ∙ rw (← e, not-false b t) }
+  mark_cleared ws' t h = record { equal = λ ts. h.equal ts ∙ rw (← e, t) }
 
 module _ (g ws₀ : List ℕ) (n : ℕ) (ws : List ℕ) (k : ℕ) (a : Turns (unmark_from g) 0 n ws₀ ws k) where
   pub unmark_more : (ws' : List ℕ) → k < n → Gives ws (clear_mark g k) tt ws' → length ws' ≡ length ws → Turns (unmark_from g) 0 n ws₀ ws' (k + 1)
@@ -106,9 +92,9 @@ module _ (g : List ℕ) (d n : ℕ) where
   is_beyond h = rw (le-ltb d (shapes_granted g) h)
 
 -- ---- a search's loop
-pub record Looks (g : List ℕ) (first count : ℕ) (ws₀ ws : List ℕ) (d k n : ℕ) : Type 0 where
-  pub rest : (ts : List ℕ) → look_rest g d k n (raw ts ws) ≡ look_under (shapes_granted g) g 0 first count (raw ts ws₀)
-  pub walks : Walks g ws d k n
+pub record Looks (g : List ℕ) (first count : ℕ) (ws₀ ws : List ℕ) (w : Walk) : Type 0 where
+  pub rest : (ts : List ℕ) → look_rest g w.depth w.slot w.left (raw ts ws) ≡ look_under (shapes_granted g) g 0 first count (raw ts ws₀)
+  pub walks : Walks g ws w
   pub long : length ws ≡ length ws₀
 
 then_given : (o : Out ℕ) → go_on o (λ a. give a) ≡ o
@@ -133,7 +119,7 @@ within_deep g n h = go (ltb 0 (shapes_granted g)) refl h
     go false e l = absurd (omega arith)
 
 module _ (g : List ℕ) (first count : ℕ) (ws₀ : List ℕ) where
-  pub looks_first : (n : ℕ) → Starts g ws₀ first count → n ≡ within g 0 count → Looks g first count ws₀ ws₀ 0 first n
+  pub looks_first : (n : ℕ) → Starts g ws₀ first count → n ≡ within g 0 count → Looks g first count ws₀ ws₀ (walk_at 0 first n)
   unfolding look_rest look_above ◌>>=◌
   looks_first n s e =
       let z : shapes_granted g - 0 ≡ shapes_granted g = omega arith in
@@ -151,34 +137,28 @@ module _ (g : List ℕ) (first count : ℕ) (ws₀ : List ℕ) where
         long = refl;
       }
 
-  module _ (ws : List ℕ) (d k n : ℕ) (a : Looks g first count ws₀ ws d k n) where
-    pub looks_under : 0 < d + n → Under g ws d k n
+  module _ (ws : List ℕ) (w : Walk) (a : Looks g first count ws₀ ws w) where
+    pub looks_under : 0 < w.depth + w.left → Under g ws w
     looks_under h = record { walks = a.walks; more = λ e. omega arith }
 
-    pub looks_last : d + n ≤ 0 → Gives ws₀ (look_under (shapes_granted g) g 0 first count) 0 ws
+    pub looks_last : w.depth + w.left ≤ 0 → Gives ws₀ (look_under (shapes_granted g) g 0 first count) 0 ws
     looks_last h =
-        let x : d ≡ 0 = omega arith in
-        let y : n ≡ 0 = omega arith in
-        record { equal = λ ts. sym (look_over g k (raw ts ws)) ∙ (rw (x, y) at (a.rest ts)) }
+        let x : w.depth ≡ 0 = omega arith in
+        let y : w.left ≡ 0 = omega arith in
+        record { equal = λ ts. sym (look_over g w.slot (raw ts ws)) ∙ (rw (x, y) at (a.rest ts)) }
 
-    module _ (t : Turn) (ws' : List ℕ) (r : Looked g ws d k n t ws') where
-      pub looks_next : (d' k' n' : ℕ) → t ≡ At d' k' n' → length ws' ≡ length ws → Looks g first count ws₀ ws' d' k' n'
-      unfolding look_by WalksBy
-      looks_next d' k' n' e l =
-          let q = rw e at r in
-          record { rest = λ ts. q.equal ts ∙ a.rest ts; walks = q.walks; long = l ∙ a.long }
+    module _ (ws' : List ℕ) where
+      pub looks_next : (t : Walk) → Looked g ws w (Continue t) ws' → length ws' ≡ length ws → Looks g first count ws₀ ws' t
+      unfolding look_by looks_within
+      looks_next t r l = record { rest = λ ts. r.equal ts ∙ a.rest ts; walks = r.walks; long = l ∙ a.long }
 
-      pub looks_less : (d' k' n' : ℕ) → t ≡ At d' k' n' → owed (shapes_granted g) ws' d' n' < owed (shapes_granted g) ws d n
-      unfolding owed_by
-      looks_less d' k' n' e = let q = rw e at r in q.less
+      pub looks_less : (t : Walk) → Looked g ws w (Continue t) ws' → owed (shapes_granted g) ws' t.depth t.left < owed (shapes_granted g) ws w.depth w.left
+      unfolding left_to_look
+      looks_less t r = r.less
 
-      pub found_small : (m : ℕ) → t ≡ Stopped m → m < 2 ^ 18
-      unfolding SmallBy
-      found_small m e = let q = rw e at r in q.small
-
-      pub looks_found : (m : ℕ) → t ≡ Stopped m → Gives ws₀ (look_under (shapes_granted g) g 0 first count) m ws'
+      pub looks_found : (m : ℕ) → Looked g ws w (Break m) ws' → Gives ws₀ (look_under (shapes_granted g) g 0 first count) m ws'
       unfolding look_by
-      looks_found m e = let q = rw e at r in record { equal = λ ts. q.equal ts ∙ a.rest ts }
+      looks_found m r = record { equal = λ ts. r.equal ts ∙ a.rest ts }
 
 -- ---- where a search begins
 module _ (g ws : List ℕ) where
@@ -212,8 +192,8 @@ pub record Climbs (g : List ℕ) (end k : ℕ) (ws₀ ws : List ℕ) (at turns :
   pub long : length ws ≡ length ws₀
 
 module _ (g : List ℕ) (end k : ℕ) (ws₀ : List ℕ) where
-  pub climb_first : Climbs g end k ws₀ ws₀ k end
-  climb_first = record { rest = λ ts. refl; long = refl }
+  pub climb_first : (turns : ℕ) → turns ≡ end → Climbs g end k ws₀ ws₀ k turns
+  climb_first turns e = rw e record { rest = λ ts. refl; long = refl }
 
   module _ (ws : List ℕ) (at turns : ℕ) (a : Climbs g end k ws₀ ws at turns) where
     pub climb_room : Room g ws₀ → Room g ws
@@ -236,9 +216,10 @@ module _ (g : List ℕ) (end k : ℕ) (ws₀ : List ℕ) where
         unfolding goes_on give if◌then◌otherwise◌
         behind_none y = record { equal = λ ts. sym (turn_by ts ∙ rw (z, ← u, y)) }
 
-        pub behind_next : (ws₂ : List ℕ) → (up ≡ 0 → ⊥) → Gives ws₁ (unmark g (up - 1)) tt ws₂ → length ws₁ ≡ length ws → length ws₂ ≡ length ws₁ → Climbs g end k ws₀ ws₂ (up - 1) (turns - 1)
+        pub behind_next : (ws₂ : List ℕ) → (up ≡ 0 → ⊥) → Gives ws₁ (unmark g (up - 1)) tt ws₂ → length ws₁ ≡ length ws → length ws₂ ≡ length ws₁
+            → (fewer : ℕ) → turns - 1 ≡ fewer → Climbs g end k ws₀ ws₂ (up - 1) fewer
         unfolding goes_on ◌>>=◌ go_on if◌then◌otherwise◌
-        behind_next ws₂ y m l₁ l₂ = record {
+        behind_next ws₂ y m l₁ l₂ fewer f = rw (← f) record {
           rest = λ ts. turn_by ts ∙ rw (z, ← u, ne_eqb up 0 y) (after_gift (λ _. look_behind (turns - 1) g end (up - 1)) ts m);
           long = l₂ ∙ l₁ ∙ a.long;
         }

@@ -6,9 +6,9 @@ use Rattle.machine.specs.Act.{raw, Out, done, Act, ◌>>=◌, ◌>>◌, give, lo
 use Rattle.machine.specs.Shapes.{is_group_at, destroyed_at}
 use Rattle.machine.specs.Groups.{component_at, followers_at, first_at, count_at, way_place}
 use Rattle.machine.specs.Loops.{hollow_at, hollow, marked_at, unmark, look_from, look_under}
-use Rattle.walks.specs.declared.Turn.{Turn}
-use Rattle.walks.specs.declared.Turn.TheVariants.{At, Stopped}
-use Rattle.walks.specs.Walks.{slot_in, left_in, WalksBy, owed, owed_by}
+use Rattle.std.proofs.Common.{ControlFlow, Continue, Break}
+use Rattle.walks.specs.declared.Walk.{Walk}
+use Rattle.walks.specs.Walks.{slot_in, left_in, Walks, owed}
 
 -- whether a component is passed over
 abbrev pub passed_over : List ℕ → ℕ → Bool
@@ -35,24 +35,27 @@ module _ (g : List ℕ) where
   unfoldable pub look_rest : ℕ → ℕ → ℕ → Act ℕ
   look_rest d k n = look_level d k n >>= look_above d
 
-  unfoldable pub look_by : Turn → List ℕ → List ℕ → Out ℕ
-  look_by (At d k n) ts ws = look_rest d k n (raw ts ws)
-  look_by (Stopped found) ts ws = done found (raw ts ws)
+  unfoldable pub look_by : ControlFlow ℕ Walk → List ℕ → List ℕ → Out ℕ
+  look_by (Continue w) ts ws = look_rest w.depth w.slot w.left (raw ts ws)
+  look_by (Break found) ts ws = done found (raw ts ws)
 
 -- how many components are counted at a depth
 unfoldable pub within : List ℕ → ℕ → ℕ → ℕ
 within g d n = if nat_lt d (shapes_granted g) then (λ _. n) otherwise λ _. 0
 
 -- ---- a turn
-unfoldable pub SmallBy : Turn → Type 0
-SmallBy (At d k n) = Unit {0}
-SmallBy (Stopped found) = found < 2 ^ 18
+unfoldable pub looks_within : List ℕ → List ℕ → ControlFlow ℕ Walk → Type 0
+looks_within g ws (Continue w) = Walks g ws w
+looks_within g ws (Break found) = Unit {0}
 
-pub record Looked (g ws : List ℕ) (d k n : ℕ) (turn : Turn) (ws' : List ℕ) : Type 0 where
-  pub equal : (ts : List ℕ) → look_by g turn ts ws' ≡ look_rest g d k n (raw ts ws)
-  pub walks : WalksBy g ws' turn
-  pub small : SmallBy turn
-  pub less : owed_by (shapes_granted g) ws' turn < owed (shapes_granted g) ws d n
+unfoldable pub left_to_look : ℕ → List ℕ → ControlFlow ℕ Walk → ℕ
+left_to_look size ws (Continue w) = owed size ws w.depth w.left
+left_to_look size ws (Break found) = 0
+
+pub record Looked (g ws : List ℕ) (w : Walk) (turn : ControlFlow ℕ Walk) (ws' : List ℕ) : Type 0 where
+  pub equal : (ts : List ℕ) → look_by g turn ts ws' ≡ look_rest g w.depth w.slot w.left (raw ts ws)
+  pub walks : looks_within g ws' turn
+  pub less : left_to_look (shapes_granted g) ws' turn < owed (shapes_granted g) ws w.depth w.left
 
 -- what a search asks
 pub record Starts (g ws : List ℕ) (k n : ℕ) : Type 0 where

@@ -8,8 +8,9 @@ ghost use Rattle.loops.specs.Looking.{within, look_after, Looked, Starts};
 
 use crate::marks;
 use machine::granted;
+use std::ops::ControlFlow;
 use stores::{components, shapes};
-use walks::Turn;
+use walks::Walk;
 
 // How many components are looked at, at a depth.
 fn within(grants: &[u64; 5], d: u32, n: u32) -> u32
@@ -21,26 +22,25 @@ fn within(grants: &[u64; 5], d: u32, n: u32) -> u32
     0
 }
 
-// A turn: up from a group that is hollow, past a component, down into one, or found.
-fn look_once(words: &mut [u64], grants: &[u64; 5], d: u32, k: u32, n: u32) -> Turn
-    requires { Under grants.now words.old d k n }
-    ensures { Looked grants.now words.old d k n result words.new }
+// A turn: up from a group that is hollow, past a component, down into one, or found: the slot behind.
+fn look_once(words: &mut [u64], grants: &[u64; 5], w: Walk) -> ControlFlow<u32, Walk>
+    requires { Under grants.now words.old w }
+    ensures { Looked grants.now words.old w result words.new }
 {
-    if n == 0 {
-        let r = walks::back_at(words, d - 1);
-        marks::give_up(words, grants, walks::slot_at(words, d - 1));
-        return r;
+    if w.left == 0 {
+        let up = walks::back_at(words, w.depth - 1);
+        marks::give_up(words, grants, walks::slot_at(words, w.depth - 1));
+        return ControlFlow::Continue(up);
     }
-    let c = components::component_at(words, grants, k);
+    let c = components::component_at(words, grants, w.slot);
     if marks::is_passed(words, c) {
-        return Turn::At(d, k + 1, n - 1);
+        return ControlFlow::Continue(w.past());
     }
     if !shapes::is_group(words, c) {
-        return Turn::Stopped(k as u64 + 1);
+        return ControlFlow::Break(w.slot + 1);
     }
-    marks::mark(words, grants, k);
-    let r = walks::enter(words, grants, d, k, n - 1, c);
-    r
+    marks::mark(words, grants, w.slot);
+    ControlFlow::Continue(walks::enter(words, grants, w.depth, w.slot, w.left - 1, c))
 }
 
 // The slot behind that of the first figure among n components from slot k on and in groups among them; 0 if there is none.
@@ -48,17 +48,15 @@ fn look(words: &mut [u64], grants: &[u64; 5], first: u32, count: u32) -> u32
     requires { Starts grants.now words.old first count }
     ensures { Gives words.old (look_under (shapes_granted grants.now) grants.now 0 first count) result words.new }
 {
-    let mut d = 0;
-    let mut k = first;
-    let mut n = within(grants, 0, count);
-    while 0 < d + n {
-        match look_once(words, grants, d, k, n) {
-            Turn::At(e, l, m) => {
-                d = e;
-                k = l;
-                n = m;
-            }
-            Turn::Stopped(found) => return found as u32,
+    let mut w = Walk {
+        depth: 0,
+        slot: first,
+        left: within(grants, 0, count),
+    };
+    while 0 < w.depth + w.left {
+        match look_once(words, grants, w) {
+            ControlFlow::Continue(next) => w = next,
+            ControlFlow::Break(found) => return found,
         }
     }
     0
@@ -71,8 +69,7 @@ pub fn look_in(words: &mut [u64], grants: &[u64; 5], i: u32) -> u32
 {
     let first = components::first_at(words, i);
     let count = components::count_at(words, i);
-    let r = look(words, grants, first, count);
-    r
+    look(words, grants, first, count)
 }
 
 // The first marked slot from k on below end: the one behind it; 0 if there is none.
@@ -80,12 +77,10 @@ fn marked_from(words: &[u64], grants: &[u64; 5], from: u32, end: u32) -> u32
     requires { Room grants.now words.now }
     ensures { result ≡ marked_from grants.now words.now from (end - from) }
 {
-    let mut k = from;
-    while k < end {
+    for k in from..end {
         if marks::is_marked(words, grants, k) {
             return k + 1;
         }
-        k += 1;
     }
     0
 }
@@ -108,8 +103,7 @@ fn look_after(words: &mut [u64], grants: &[u64; 5], k: u32) -> u32
 {
     let first = ((k as u64 + 1) % 65536) as u32;
     let n = components::followers_at(words, grants, k);
-    let r = look(words, grants, first, n);
-    r
+    look(words, grants, first, n)
 }
 
 // Behind slot k: among those that follow it in its group, or else behind the next marked slot below end.
@@ -118,9 +112,7 @@ pub fn look_behind(words: &mut [u64], grants: &[u64; 5], end: u32, k: u32) -> u3
     ensures { Gives words.old (look_behind end grants.now end k) result words.new }
 {
     let mut at = k;
-    let mut turns = end;
-    while 0 < turns {
-        turns -= 1;
+    for turn in 0..end {
         let found = look_after(words, grants, at);
         if found != 0 {
             return found;

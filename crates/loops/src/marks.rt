@@ -12,13 +12,8 @@ use stores::{components, shapes, words};
 pub fn is_passed(words: &[u64], c: u32) -> bool
     ensures { result ≡ passed_over words.now c }
 {
-    if shapes::is_destroyed(words, c) {
-        return true;
-    }
-    if !shapes::is_group(words, c) {
-        return false;
-    }
-    words::word_at(words, shapes::place_of(c) + 2) == 1
+    shapes::is_destroyed(words, c)
+        || shapes::is_group(words, c) && words::word_at(words, shapes::place_of(c) + 2) == 1
 }
 
 pub fn is_marked(words: &[u64], grants: &[u64; 5], k: u32) -> bool
@@ -61,10 +56,9 @@ fn clear_mark(words: &mut [u64], grants: &[u64; 5], k: u32)
     requires { Room grants.now words.old }
     ensures { Gives words.old (clear_mark grants.now k) tt words.new }
 {
-    if !is_marked(words, grants, k) {
-        return;
+    if is_marked(words, grants, k) {
+        unmark(words, grants, k);
     }
-    unmark(words, grants, k);
 }
 
 // No slot below end is marked any longer.
@@ -72,9 +66,7 @@ pub fn unmark_below(words: &mut [u64], grants: &[u64; 5], end: u32)
     requires { Room grants.now words.old }
     ensures { Gives words.old (unmark_from grants.now 0 end) tt words.new }
 {
-    let mut k = 0;
-    while k < end {
+    for k in 0..end {
         clear_mark(words, grants, k);
-        k += 1;
     }
 }

@@ -1,11 +1,11 @@
 -- How acts go on after what code answered: a law for each way, with the text store and of the words alone.
-use Rattle.std.specs.Prelude.{ℕ, ◌≡◌, Bool, true, false, List, Result, Ok, Err, get_or}
+use Rattle.std.specs.Prelude.{ℕ, ◌≡◌, Bool, true, false, List, Result, Ok, Err, get_or, set}
 use Rattle.std.specs.Result.{IsErrAnd}
 use mathlib.Core.Path.{refl, ap, sym, ◌∙◌}
 use Rattle.meaning.specs.Basics.{if◌then◌otherwise◌}
 use Rattle.machine.specs.declared.Fault.{Fault}
 use Rattle.machine.specs.Fault.{number_of, place_of}
-use Rattle.machine.specs.Act.{raw, Out, Act, go_on, ◌>>=◌, refuse, give, fail, load, held, out_of, DoesIn, Does, Gives}
+use Rattle.machine.specs.Act.{raw, Out, Act, go_on, ◌>>=◌, refuse, give, fail, load, store, held, out_of, DoesIn, Does, Gives}
 
 -- what the exit of a `?` returns
 pub passed_on : {A : Type 0} {e : Fault} (s : Result A Fault) → IsErrAnd s (λ y. y ≡ e) → s ≡ Err e
@@ -124,3 +124,8 @@ given a = record { equal = λ ts. refl }
 pub failed : {A : Type 0} {ws : List ℕ} (e : Fault) → Does {A = A} ws (fail (number_of e) (place_of e)) (Err e) ws
 unfolding fail out_of
 failed e = record { equal = λ ts. refl }
+
+-- a word that is stored
+pub stored : {ws : List ℕ} (i w : ℕ) → Does ws (store i w) (Ok tt) (set ws i w)
+unfolding store out_of
+stored i w = record { equal = λ ts. refl }

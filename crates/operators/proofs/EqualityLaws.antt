@@ -1,10 +1,10 @@
 -- Equality.
-use Prim.Native.Nat.{ℕ, zero, suc, ◌/◌, ◌%◌, ◌^◌, ◌<◌, ◌≤◌}
+use Prim.Native.Nat.{ℕ, zero, suc, ◌/◌, ◌%◌, ◌^◌, ◌<◌}
 use mathlib.Core.Path.{◌≡◌, ◌∙◌, refl, ap, sym}
 use mathlib.Core.Bool.{Bool, true, false, not, cond}
 use mathlib.Core.List.{List}
 use native.Mathlib.Omega.{arith}
-use borrow.Author.Tests.{ne_eqb, lt-ltb, le-ltb}
+use borrow.Author.Tests.{ne_eqb}
 use lib.Dec.{eqb}
 use lib.IntN.{ℤ}
 use lib.Signed.{mag}
@@ -16,7 +16,7 @@ use Rattle.machine.specs.declared.Value.{Value}
 use Rattle.machine.specs.declared.Value.TheVariants.{Integer, Text, Boolean, Nothing, Table, Shape}
 use Rattle.std.specs.Prelude.{Result, Ok, Err}
 use Rattle.machine.specs.declared.Fault.{Fault}
-use Rattle.machine.specs.declared.Fault.TheVariants.{Misuse, Numbered}
+use Rattle.machine.specs.declared.Fault.TheVariants.{Misuse}
 use Rattle.machine.specs.Layout.{shapes_granted}
 use Rattle.machine.specs.Groups.{alike_at}
 use Rattle.machine.specs.Words.{number_in, handle_in, truth_in, unpacked}
@@ -25,7 +25,6 @@ use Rattle.machine.specs.Act.{Raw, raw, go_on, ◌>>=◌, give, fail, out_of, Do
 use Rattle.machine.specs.Texts.{text_of}
 use Rattle.machine.specs.Operate.{Comparison, refused, settled, of_shapes, equality, figures_same, answered, equated, operate_on}
 use Rattle.values.proofs.Held.{held, back}
-use Rattle.pairs.specs.Pairs.{judged, Alike}
 use Rattle.operators.specs.Parts.{kind_number, unlike}
 use Rattle.operators.specs.Equality.{comparison, equating}
 
@@ -178,16 +177,6 @@ module _ (program g ts ws : List ℕ) (p a b k l : ℕ) (e : k ≡ kind_number (
     uncompared u v w x y = record {
       equal = no_comparison program g p (raw ts ws) (unpacked a) (unpacked b) (sym e ∙ t ∙ f) (rw e at u) (rw e at v) (rw e at w) (rw e at x) (rw e at y);
     }
-
--- for the time being
-module _ {program g ts ws ws' : List ℕ} (p : ℕ) {i j n : ℕ} (h : Alike program g ts ws i j n ws') where
-  pub pairs_stop : 1 < n → DoesIn ts ws (alike_at (figures_same program) (shapes_granted g) g p 0 i j) (Err (Numbered n p)) ts ws'
-  unfolding judged out_of if◌then◌otherwise◌
-  pairs_stop l = record { equal = rw (lt-ltb 1 n l) at (h.equal p) }
-
-  pub pairs_settled : n ≤ 1 → DoesIn ts ws (alike_at (figures_same program) (shapes_granted g) g p 0 i j) (Ok (eqb n 1)) ts ws'
-  unfolding judged out_of if◌then◌otherwise◌
-  pairs_settled l = record { equal = rw (le-ltb 1 n l) at (h.equal p) }
 
 -- ---- the answers
 answered_by : (program g : List ℕ) (p : ℕ) (s : Raw) (f : Bool → Bool) (c : Comparison) → answered program g p f c s ≡ go_on (comparison program g p c s) (λ b. give (Boolean (f b)))

@@ -13,16 +13,14 @@ use Rattle.meaning.specs.Basics.{if◌then◌otherwise◌}
 use Rattle.meaning.specs.Integer.{is_zero}
 use Rattle.machine.specs.declared.Value.{Value}
 use Rattle.machine.specs.declared.Value.TheVariants.{Integer, Shape}
-use Rattle.machine.specs.declared.Answer.{Answer}
-use Rattle.machine.specs.declared.Answer.TheVariants.{Good, Bad}
 use Rattle.std.specs.Prelude.{Result, Ok, Err}
 use Rattle.std.specs.Result.{IsErrAnd}
 use Rattle.machine.specs.declared.Fault.{Fault}
-use Rattle.machine.specs.declared.Fault.TheVariants.{Misuse, DivisionByZero, Numbered}
+use Rattle.machine.specs.declared.Fault.TheVariants.{Misuse, DivisionByZero}
 use Rattle.machine.specs.Fault.{number_of, place_of}
 use Rattle.machine.proofs.Acts.{last}
 use Rattle.machine.specs.declared.Figure.{Figure}
-use Rattle.machine.specs.Act.{Raw, raw, Act, go_on, ◌>>=◌, give, fail, refuse, shown, Answers, out_of, Does}
+use Rattle.machine.specs.Act.{Raw, raw, Act, go_on, ◌>>=◌, give, fail, refuse, out_of, Does}
 use Rattle.machine.specs.Act as Act
 use Rattle.machine.specs.Shapes.{is_group_at, figure_at, new_shape}
 use Rattle.machine.specs.Groups.{remake, remake_group}
@@ -87,12 +85,3 @@ module _ {ws g : List ℕ} {tag : ℕ} (p : ℕ) {i : ℕ} {n : ℤ} (j : SFits 
   pub draws_group : b ≡ true → Does ws (remake_group g p (changing tag (held n)) i) r ws' → Draws g ws tag p (Shape i) (Integer n) r ws'
   unfolding remake ◌>>=◌ go_on Act.held if◌then◌otherwise◌
   draws_group u a = record { does = λ program. record { equal = λ ts. (rw (to_z-of_z j) at a).equal ts ∙ sym (made_so g ws tag p i j h program ts ∙ rw (← s, u)) } }
-
--- for the time being
-pub good_so : {ws ws' : List ℕ} {act : Act Value} {a : Answer} {v : Value} → Answers ws act a ws' → a ≡ Good v → Does ws act (Ok v) ws'
-unfolding out_of shown
-good_so h e = record { equal = λ ts. sym (rw e) ∙ h.equal ts }
-
-pub bad_so : {ws ws' : List ℕ} {act : Act Value} {a : Answer} {n p : ℕ} → Answers ws act a ws' → a ≡ Bad n p → Does ws act (Err (Numbered n p)) ws'
-unfolding out_of shown
-bad_so h e = record { equal = λ ts. sym (rw e) ∙ h.equal ts }

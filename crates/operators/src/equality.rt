@@ -67,11 +67,7 @@ fn equality<'a>(
         kinds::SHAPE => {
             let i = values::number_of(a);
             let j = values::number_of(b);
-            let number = pairs::alike(program, texts, words, grants, i, j);
-            if 1 < number {
-                return Err(Fault::Numbered(number, p));
-            }
-            Ok(number == 1)
+            pairs::alike(program, texts, words, grants, p, i, j)
         }
         _ => Err(Fault::Misuse(p)),
     }

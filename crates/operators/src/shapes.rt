@@ -4,7 +4,7 @@ ghost use Rattle.machine.specs.Layout.{Room};
 ghost use Rattle.operators.specs.Parts.{Draws};
 
 use figures::changes;
-use machine::{Answer, Fault, Value};
+use machine::{Fault, Value};
 
 // An operator, by its tag, on a shape and an integer.
 pub fn on_shape(
@@ -20,10 +20,7 @@ pub fn on_shape(
 {
     changes::allowed(tag, n, p)?;
     if stores::shapes::is_group(words, i) {
-        return match remaking::remake_group(words, grants, tag, n, p, i) {
-            Answer::Good(v) => Ok(v),
-            Answer::Bad(number, q) => Err(Fault::Numbered(number, q)),
-        };
+        return remaking::remake_group(words, grants, tag, n, p, i);
     }
     let f = changes::changed(tag, stores::shapes::figure_at(words, i), n);
     stores::shapes::new_shape(words, grants, p, f)

@@ -1,26 +1,35 @@
 -- Two groups compared pair by pair: the loop does what the comparison does, since nothing on the way changes the words of the depths above.
 use Prim.Native.Nat.{ℕ, zero, suc, ◌+◌, ◌-◌, ◌/◌, ◌%◌, ◌^◌, ◌≤◌, ◌<◌}
 use mathlib.Core.Path.{◌≡◌, refl, ap, sym, ◌∙◌}
-use mathlib.Core.Bool.{Bool, true, false, not, ◌&&◌, ◌||◌}
+use mathlib.Core.Bool.{Bool, true, false, ◌&&◌, ◌||◌}
 use mathlib.Core.List.{List, []}
 use native.Mathlib.Omega.{arith}
 use lib.ListN.{get_or, set, length, length-set}
 use lib.Seq.{get_or-set_same, get_or-set_other}
 use lib.Dec.{eqb, leb}
-use borrow.Author.Tests.{not-true, not-false, eq-eqb, ne_eqb}
+use borrow.Author.Tests.{eq-eqb, ne_eqb}
 use Rattle.meaning.specs.Basics.{if◌then◌otherwise◌}
 use Rattle.machine.specs.Layout.{steps_used, steps_granted, shapes_granted, shape_place, Room}
-use Rattle.machine.specs.Act.{Raw, raw, Out, done, stop, Act, go_on, ◌>>=◌, give, load, store, held, spend, count, passed, Passes}
+use Rattle.machine.specs.Act.{Raw, raw, Out, done, stop, Act, go_on, ◌>>=◌, give, load, store, held, spend, count, out_of, Does, DoesIn}
 use Rattle.machine.specs.Shapes.{is_group_at, destroyed_at, figure_at}
 use Rattle.machine.specs.Groups.{component_at, first_at, count_at, way_word, way_place, waiting_place, passed_from, pairs_from, alike_at}
 use Rattle.machine.specs.Operate.{same_figure, figures_same}
 use Rattle.walks.specs.Walks.{slot_in, left_in, owed}
 use Rattle.walks.proofs.WalkLaws.{slot_back, left_back, advance_less, climb_less, descend_less, same_owed, owed_some}
 use Rattle.walks.proofs.TurnLaws.{room_same, way_at, less_one_lem}
-use Rattle.pairs.specs.declared.PairTurn.{PairTurn}
-use Rattle.pairs.specs.declared.PairTurn.TheVariants.{At, Settled}
-use Rattle.pairs.specs.Pairs.{judged, both_laid, pair_at, pair_level, pair_above, pair_rest, pair_after, pair_kept, pair_first, pair_by, met_by, back_both}
-use Rattle.pairs.specs.Pairs.{Pairs, PairsBy, left_by, Passing, Backs, Kept, Within, Paired, PairedFirst, Follows, PairEnds, Meets, PairsWithin, Alike}
+use Rattle.std.proofs.Common.{ControlFlow, Continue, Break}
+use Rattle.std.specs.Prelude.{Result, Ok, Err}
+use Rattle.std.specs.Result.{IsErrAnd}
+use Rattle.machine.specs.declared.Fault.{Fault}
+use Rattle.machine.proofs.Acts.{passed_on}
+use Rattle.pairs.specs.declared.Ways.{Ways}
+use Rattle.pairs.specs.declared.Met.{Met}
+use Rattle.pairs.specs.declared.Met.TheVariants.{Apart, Same, Groups}
+use Rattle.pairs.specs.Pairs.{both_laid, pair_at, pair_level, pair_above, pair_rest, pair_after, pair_kept, pair_first, pair_by, met_by, back_both}
+use Rattle.pairs.specs.Pairs.{Pairs, PairsBy, left_by, Passing, Backs, Kept, Within, Paired, PairedFirst, Follows, PairEnds, Meets}
+
+abbrev pub ways_at : ℕ → ℕ → ℕ → ℕ → ℕ → Ways
+ways_at d k n l m = record { depth = d; slot = k; left = n; other_slot = l; other_left = m }
 
 -- ---- acts that spare a word
 unfoldable Spares : {A : Type 0} → ℕ → Raw → Out A → Type 0
@@ -89,35 +98,35 @@ module _ (program g : List ℕ) (p q : ℕ) (some : 0 < q) where
 
 -- ---- two shapes
 module _ (program g ts ws : List ℕ) (d i j : ℕ) where
-  pub meet_beyond : shapes_granted g ≤ d → Meets program g ts ws d i j 0
-  unfolding met_by judged alike_at give if◌then◌otherwise◌
-  meet_beyond h = let z : shapes_granted g - d ≡ 0 = omega arith in record { equal = λ p. rw z; deep = λ e. absurd (omega arith); small = omega arith }
+  pub meet_beyond : shapes_granted g ≤ d → Meets program g ts ws d i j Apart
+  unfolding met_by alike_at give if◌then◌otherwise◌
+  meet_beyond h = let z : shapes_granted g - d ≡ 0 = omega arith in record { equal = λ p. rw z; deep = λ z. absurd (cc) }
 
   module _ (h : d < shapes_granted g) where
     alike_below : (p : ℕ) → alike_at (figures_same program) (shapes_granted g - d) g p d i j (raw ts ws) ≡ alike_at (figures_same program) (suc (shapes_granted g - suc d)) g p d i j (raw ts ws)
     alike_below p = let z : shapes_granted g - d ≡ suc (shapes_granted g - suc d) = omega arith in rw z
 
     module _ (a : Bool) (e : a ≡ is_group_at ws i) (c : Bool) (f : c ≡ is_group_at ws j) where
-      pub meet_groups : a ≡ true → c ≡ true → Meets program g ts ws d i j 2
+      pub meet_groups : a ≡ true → c ≡ true → Meets program g ts ws d i j Groups
       unfolding met_by pair_level pair_at alike_at ◌>>=◌ go_on held if◌then◌otherwise◌
-      meet_groups t u = record { equal = λ p. sym (alike_below p ∙ rw (← e, ← f, t, u)); deep = λ _. h; small = omega arith }
+      meet_groups t u = record { equal = λ p. sym (alike_below p ∙ rw (← e, ← f, t, u)); deep = λ _. h }
 
-      pub meet_group_left : a ≡ true → c ≡ false → Meets program g ts ws d i j 0
-      unfolding met_by judged alike_at ◌>>=◌ go_on held give if◌then◌otherwise◌
-      meet_group_left t u = record { equal = λ p. sym (alike_below p ∙ rw (← e, ← f, t, u)); deep = λ z. absurd (omega arith); small = omega arith }
+      pub meet_group_left : a ≡ true → c ≡ false → Meets program g ts ws d i j Apart
+      unfolding met_by alike_at ◌>>=◌ go_on held give if◌then◌otherwise◌
+      meet_group_left t u = record { equal = λ p. sym (alike_below p ∙ rw (← e, ← f, t, u)); deep = λ z. absurd (cc) }
 
-      pub meet_group_right : a ≡ false → c ≡ true → Meets program g ts ws d i j 0
-      unfolding met_by judged alike_at ◌>>=◌ go_on held give if◌then◌otherwise◌
-      meet_group_right t u = record { equal = λ p. sym (alike_below p ∙ rw (← e, ← f, t, u)); deep = λ z. absurd (omega arith); small = omega arith }
+      pub meet_group_right : a ≡ false → c ≡ true → Meets program g ts ws d i j Apart
+      unfolding met_by alike_at ◌>>=◌ go_on held give if◌then◌otherwise◌
+      meet_group_right t u = record { equal = λ p. sym (alike_below p ∙ rw (← e, ← f, t, u)); deep = λ z. absurd (cc) }
 
       module _ (t : a ≡ false) (u : c ≡ false) (s : Bool) (v : s ≡ same_figure program ts (figure_at ws i) (figure_at ws j)) where
-        pub meet_same : s ≡ true → Meets program g ts ws d i j 1
-        unfolding met_by judged alike_at figures_same ◌>>=◌ go_on held give if◌then◌otherwise◌
-        meet_same x = record { equal = λ p. sym (alike_below p ∙ rw (← e, ← f, t, u, ← v, x)); deep = λ z. absurd (omega arith); small = omega arith }
+        pub meet_same : s ≡ true → Meets program g ts ws d i j Same
+        unfolding met_by alike_at figures_same ◌>>=◌ go_on held give if◌then◌otherwise◌
+        meet_same x = record { equal = λ p. sym (alike_below p ∙ rw (← e, ← f, t, u, ← v, x)); deep = λ z. absurd (cc) }
 
-        pub meet_other : s ≡ false → Meets program g ts ws d i j 0
-        unfolding met_by judged alike_at figures_same ◌>>=◌ go_on held give if◌then◌otherwise◌
-        meet_other x = record { equal = λ p. sym (alike_below p ∙ rw (← e, ← f, t, u, ← v, x)); deep = λ z. absurd (omega arith); small = omega arith }
+        pub meet_other : s ≡ false → Meets program g ts ws d i j Apart
+        unfolding met_by alike_at figures_same ◌>>=◌ go_on held give if◌then◌otherwise◌
+        meet_other x = record { equal = λ p. sym (alike_below p ∙ rw (← e, ← f, t, u, ← v, x)); deep = λ z. absurd (cc) }
 
 -- ---- one act and then another
 then_alike : (o : Out Bool) (k k' : Bool → Act Bool) → ((b : Bool) (r : Raw) → o ≡ done b r → k b r ≡ k' b r) → go_on o k ≡ go_on o k'
@@ -210,10 +219,10 @@ module _ (program g : List ℕ) (p : ℕ) where
           ∙ ap (λ o. go_on o (pair_above program g p (suc d))) e
 
   -- a step is counted, and the ways are kept
-  first_kept : (d k n l m : ℕ) (ts ws ws₁ : List ℕ) → Passes ws 79 (count g) true ws₁
+  first_kept : (d k n l m : ℕ) (ts ws ws₁ : List ℕ) → Does ws (count g p) (Ok tt) ws₁
       → pair_first program g p d k n l m (raw ts ws) ≡ pair_kept program g p d k n l m (raw ts (both_laid ws₁ d k n l m))
-  unfolding pair_first pair_kept pair_at both_laid ◌>>=◌ go_on held store passed
-  first_kept d k n l m ts ws ws₁ h = rw (← h.equal p ts)
+  unfolding pair_first pair_kept pair_at both_laid ◌>>=◌ go_on held store out_of
+  first_kept d k n l m ts ws ws₁ h = rw (← h.equal ts)
 
 -- ---- those passed over
 pub passed_most : (g ws : List ℕ) (k n : ℕ) → passed_from g ws k n ≤ n
@@ -235,26 +244,26 @@ module _ (g ws : List ℕ) (k n : ℕ) where
   pass_first = let a : k + 0 ≡ k = omega arith in let b : n - 0 ≡ n = omega arith in record { rest = rw (a, b) (omega arith); most = omega arith }
 
   module _ (y : ℕ) (h : Passed g ws k n y) where
-    pub pass_last : n ≤ y → y ≡ passed_from g ws k n
+    pub pass_last : n ≤ y → n ≡ passed_from g ws k n
     unfolding passed_from
-    pass_last l = let z : n - y ≡ 0 = omega arith in let r = rw z at h.rest in omega (arith, r)
+    pass_last l = let z : n - y ≡ 0 = omega arith in let r = rw z at h.rest in omega (arith, r, h.most)
 
     module _ (l : y < n) (c : ℕ) (e : c ≡ component_at g ws (k + y)) (b : Bool) (f : b ≡ destroyed_at ws c) where
       next_one : n - y ≡ suc (n - (y + 1))
       next_one = omega arith
 
-      pub pass_found : not b ≡ true → y ≡ passed_from g ws k n
+      pub pass_found : b ≡ false → y ≡ passed_from g ws k n
       unfolding passed_from if◌then◌otherwise◌
       pass_found t =
-          let z : destroyed_at ws (component_at g ws (k + y)) ≡ false = rw (← e) (sym f ∙ not-true b t) in
+          let z : destroyed_at ws (component_at g ws (k + y)) ≡ false = rw (← e) (sym f ∙ t) in
           let r : passed_from g ws (k + y) (suc (n - (y + 1))) ≡ 0 = rw z in
           let s = rw next_one at h.rest in
           omega (arith, r, s)
 
-      pub pass_next : not b ≡ false → Passed g ws k n (y + 1)
+      pub pass_next : b ≡ true → Passed g ws k n (y + 1)
       unfolding passed_from if◌then◌otherwise◌
       pass_next t =
-          let z : destroyed_at ws (component_at g ws (k + y)) ≡ true = rw (← e) (sym f ∙ not-false b t) in
+          let z : destroyed_at ws (component_at g ws (k + y)) ≡ true = rw (← e) (sym f ∙ t) in
           let i : k + y + 1 ≡ k + (y + 1) = omega arith in
           let r : passed_from g ws (k + y) (suc (n - (y + 1))) ≡ suc (passed_from g ws (k + (y + 1)) (n - (y + 1))) = rw (z, i) in
           let s = rw next_one at h.rest in
@@ -270,7 +279,7 @@ keeps_both ws ws₁ ws₂ d k n l m at v w e f h q i =
     i ∙ rw (h, b, a, f, q)
 
 module _ (ws : List ℕ) (d at w v : ℕ) (e : at ≡ shape_place d) (f : w ≡ get_or ws (at + 3) 0) (h : v ≡ get_or ws (at + 3 + 1) 0) where
-  pub back_both_lem : ◌≡◌ {A = PairTurn} (At d (w % 4294967296 + 1) (w / 4294967296 % 65536) (v % 4294967296 + 1) (v / 4294967296 % 65536)) (back_both ws d)
+  pub back_both_lem : ways_at d (w % 4294967296 + 1) (w / 4294967296 % 65536) (v % 4294967296 + 1) (v / 4294967296 % 65536) ≡ back_both ws d
   unfolding back_both
   back_both_lem =
       let a : at + 3 ≡ way_place d = omega (arith, e) in
@@ -292,8 +301,8 @@ module _ (g ws : List ℕ) (d k l m : ℕ) (a : Pairs g ws d k 0 l m) where
   backs_up z = record { left = a.ways (d - 1) (omega (arith, z)); right = a.ways' (d - 1) (omega (arith, z)) }
 
   module _ (y : ℕ) (e : y ≡ passed_from g ws l m) where
-    pub end_longer : (y ≡ m → ⊥) → PairEnds g ws d k l m (Settled 0)
-    unfolding pair_by judged PairsBy left_by if◌then◌otherwise◌
+    pub end_longer : (y ≡ m → ⊥) → PairEnds g ws d k l m (Break false)
+    unfolding pair_by PairsBy left_by if◌then◌otherwise◌
     end_longer h = record {
       equal = λ program ts p. sym (ends_longer program g p k l m (raw ts ws) d (rw (← e) (ne_eqb m y (λ q. h (sym q)))));
       pairs = tt;
@@ -304,13 +313,13 @@ module _ (g ws : List ℕ) (d k l m : ℕ) (a : Pairs g ws d k 0 l m) where
       same_end : eqb m (passed_from g ws l m) ≡ true
       same_end = rw (← e) (eq-eqb m y (sym h))
 
-      pub end_last : d ≡ 0 → PairEnds g ws d k l m (Settled 1)
-      unfolding pair_by judged PairsBy left_by if◌then◌otherwise◌
+      pub end_last : d ≡ 0 → PairEnds g ws d k l m (Break true)
+      unfolding pair_by PairsBy left_by if◌then◌otherwise◌
       end_last z = rw z (record { equal = λ program ts p. sym (ends_last program g p k l m (raw ts ws) same_end); pairs = tt; less = owed_some (shapes_granted g) ws 0 0 })
 
 -- at a depth above
 module _ (g ws : List ℕ) (k l m y : ℕ) (e : y ≡ passed_from g ws l m) (h : y ≡ m) where
-  ending_above : (d : ℕ) → Pairs g ws (suc d) k 0 l m → PairEnds g ws (suc d) k l m (back_both ws d)
+  ending_above : (d : ℕ) → Pairs g ws (suc d) k 0 l m → PairEnds g ws (suc d) k l m (Continue (back_both ws d))
   unfolding pair_by back_both PairsBy left_by
   ending_above d a = record {
     equal = λ program ts p. sym (ends_above program g p k l m (raw ts ws) d (rw (← e) (eq-eqb m y (sym h))));
@@ -327,23 +336,23 @@ module _ (g ws : List ℕ) (k l m y : ℕ) (e : y ≡ passed_from g ws l m) (h :
     less = climb_less (shapes_granted g) ws ws d (λ e q. refl);
   }
 
-  pub end_above : (d : ℕ) → Pairs g ws d k 0 l m → (d ≡ 0 → ⊥) → (t : PairTurn) → t ≡ back_both ws (d - 1) → PairEnds g ws d k l m t
+  pub end_above : (d : ℕ) → Pairs g ws d k 0 l m → (d ≡ 0 → ⊥) → (t : Ways) → t ≡ back_both ws (d - 1) → PairEnds g ws d k l m (Continue t)
   end_above zero a z t q = absurd (z refl)
   end_above (suc d) a z t q = rw (q, less_one_lem d) (ending_above d a)
 
 -- ---- a turn
-module _ (program g ts ws : List ℕ) (d k l m : ℕ) where
+module _ (program g : List ℕ) (p : ℕ) (ts ws : List ℕ) (d k l m : ℕ) where
   pub pairs_none : (n : ℕ) → Pairs g ws d k n l m → n ≡ 0 → Pairs g ws d k 0 l m
   pairs_none n a z = rw z at a
 
-  pub turn_ends : (n : ℕ) (t : PairTurn) → n ≡ 0 → PairEnds g ws d k l m t → Paired program g ts ws d k n l m t ws
-  turn_ends n t z h = rw z (record { equal = h.equal program ts; pairs = h.pairs; less = h.less })
+  pub turn_ends : (n : ℕ) (t : ControlFlow Bool Ways) → n ≡ 0 → PairEnds g ws d k l m t → Paired program g p ts ws d k n l m (Ok t) ws
+  turn_ends n t z h = rw z (record { equal = h.equal program ts p; pairs = h.pairs; less = h.less })
 
   module _ (c : ℕ) (e : c ≡ component_at g ws k) (b : Bool) (f : b ≡ destroyed_at ws c) where
-    going_over : (n : ℕ) → Pairs g ws d k (suc n) l m → b ≡ true → Paired program g ts ws d k (suc n) l m (At d (k + 1) n l m) ws
+    going_over : (n : ℕ) → Pairs g ws d k (suc n) l m → b ≡ true → Paired program g p ts ws d k (suc n) l m (Ok (Continue (ways_at d (k + 1) n l m))) ws
     unfolding pair_by PairsBy left_by
     going_over n a t = record {
-      equal = λ p. sym (goes_over program g p d k n l m (raw ts ws) (rw (← e) (sym f ∙ t)));
+      equal = sym (goes_over program g p d k n l m (raw ts ws) (rw (← e) (sym f ∙ t)));
       pairs = record {
         room = a.room;
         deep = a.deep;
@@ -357,7 +366,7 @@ module _ (program g ts ws : List ℕ) (d k l m : ℕ) where
       less = advance_less (shapes_granted g) ws ws d n (λ e h. refl);
     }
 
-    pub turn_over : (n : ℕ) → Pairs g ws d k n l m → (n ≡ 0 → ⊥) → b ≡ true → Paired program g ts ws d k n l m (At d (k + 1) (n - 1) l m) ws
+    pub turn_over : (n : ℕ) → Pairs g ws d k n l m → (n ≡ 0 → ⊥) → b ≡ true → Paired program g p ts ws d k n l m (Ok (Continue (ways_at d (k + 1) (n - 1) l m))) ws
     turn_over zero a z t = absurd (z refl)
     turn_over (suc n) a z t = rw (less_one_lem n) (going_over n a t)
 
@@ -365,20 +374,20 @@ module _ (program g ts ws : List ℕ) (d k l m : ℕ) where
       alive : destroyed_at ws (component_at g ws k) ≡ false
       alive = rw (← e) (sym f ∙ t)
 
-      pub turn_short : (n : ℕ) → (n ≡ 0 → ⊥) → y ≡ m → Paired program g ts ws d k n l m (Settled 0) ws
-      unfolding pair_by judged PairsBy left_by if◌then◌otherwise◌
+      pub turn_short : (n : ℕ) → (n ≡ 0 → ⊥) → y ≡ m → Paired program g p ts ws d k n l m (Ok (Break false)) ws
+      unfolding pair_by PairsBy left_by if◌then◌otherwise◌
       turn_short zero z h = absurd (z refl)
       turn_short (suc n) z h = record {
-        equal = λ p. sym (goes_short program g p d k n l m (raw ts ws) alive (rw (← q) (eq-eqb m y (sym h))));
+        equal = sym (goes_short program g p d k n l m (raw ts ws) alive (rw (← q) (eq-eqb m y (sym h))));
         pairs = tt;
         less = owed_some (shapes_granted g) ws d (suc n);
       }
 
-      pub turn_pair : (n : ℕ) → (n ≡ 0 → ⊥) → (y ≡ m → ⊥) → (r : PairTurn) (ws' : List ℕ) → PairedFirst program g ts ws d k (n - 1) (l + y) (m - y - 1) r ws' → Paired program g ts ws d k n l m r ws'
+      pub turn_pair : (n : ℕ) → (n ≡ 0 → ⊥) → (y ≡ m → ⊥) → (r : Result (ControlFlow Bool Ways) Fault) (ws' : List ℕ) → PairedFirst program g p ts ws d k (n - 1) (l + y) (m - y - 1) r ws' → Paired program g p ts ws d k n l m r ws'
       turn_pair zero z h r ws' w = absurd (z refl)
       turn_pair (suc n) z h r ws' w =
           let v = rw (less_one_lem n) at w in
-          record { equal = λ p. v.equal p ∙ sym (goes_on program g p d k n l m (raw ts ws) alive y q (ne_eqb m y (λ x. h (sym x)))); pairs = v.pairs; less = v.less }
+          record { equal = v.equal ∙ sym (goes_on program g p d k n l m (raw ts ws) alive y q (ne_eqb m y (λ x. h (sym x)))); pairs = v.pairs; less = v.less }
 
   pub pair_asks : (n y : ℕ) → Pairs g ws d k n l m → (n ≡ 0 → ⊥) → y ≡ passed_from g ws l m → (y ≡ m → ⊥) → Pairs g ws d k (n - 1 + 1) (l + y) (m - y - 1 + 1)
   pair_asks n y a z e h =
@@ -403,27 +412,24 @@ module _ (g ws : List ℕ) (l m y : ℕ) (e : y ≡ passed_from g ws l m) where
   right_more h = let x = right_most in omega (arith, x, h)
 
 -- ---- a pair
-module _ (program g ts ws : List ℕ) (d k n l m : ℕ) (w : Kept g ws d k n l m) (i j : ℕ) (e : i ≡ component_at g ws k) (f : j ≡ component_at g ws l) (number : ℕ)
-    (s : Meets program g ts ws (d + 1) i j number) where
-  met_as : (p : ℕ) → met_by program g p number (suc d) i j ts ws ≡ met program g p d k n l m (raw ts ws)
-  met_as p = let one : d + 1 ≡ suc d = omega arith in (rw one at s).equal p ∙ rw (e, f)
+module _ (program g ts ws : List ℕ) (d k n l m : ℕ) (w : Kept g ws d k n l m) (i j : ℕ) (e : i ≡ component_at g ws k) (f : j ≡ component_at g ws l) where
+  met_as : (v : Met) → Meets program g ts ws (d + 1) i j v → (p : ℕ) → met_by program g p v (suc d) i j ts ws ≡ met program g p d k n l m (raw ts ws)
+  met_as v s p = let one : d + 1 ≡ suc d = omega arith in (rw one at s).equal p ∙ rw (e, f)
 
-  pub follow_apart : (number ≡ 1 → ⊥) → (number ≡ 2 → ⊥) → Follows program g ts ws d k n l m (Settled 0)
-  unfolding pair_by PairsBy left_by met_by judged if◌then◌otherwise◌
-  follow_apart y z =
-      let none : number ≡ 0 = omega (arith, s.small, y, z) in
-      record {
-        equal = λ p. sym (kept_apart program g p d k n l m (raw ts ws) (sym (met_as p) ∙ rw none));
-        pairs = tt;
-        less = owed_some (shapes_granted g) ws d (suc n);
-      }
+  pub follow_apart : Meets program g ts ws (d + 1) i j Apart → Follows program g ts ws d k n l m (Break false)
+  unfolding pair_by PairsBy left_by met_by
+  follow_apart s = record {
+    equal = λ p. sym (kept_apart program g p d k n l m (raw ts ws) (sym (met_as Apart s p)));
+    pairs = tt;
+    less = owed_some (shapes_granted g) ws d (suc n);
+  }
 
-  pub follow_same : number ≡ 1 → Follows program g ts ws d k n l m (At d (k + 1) n (l + 1) m)
-  unfolding pair_by PairsBy left_by met_by judged if◌then◌otherwise◌
-  follow_same z =
+  pub follow_same : Meets program g ts ws (d + 1) i j Same → Follows program g ts ws d k n l m (Continue (ways_at d (k + 1) n (l + 1) m))
+  unfolding pair_by PairsBy left_by met_by
+  follow_same s =
       let a = w.pairs in
       record {
-        equal = λ p. sym (kept_same program g p d k n l m (raw ts ws) (sym (met_as p) ∙ rw z));
+        equal = λ p. sym (kept_same program g p d k n l m (raw ts ws) (sym (met_as Same s p)));
         pairs = record {
           room = a.room;
           deep = a.deep;
@@ -437,17 +443,17 @@ module _ (program g ts ws : List ℕ) (d k n l m : ℕ) (w : Kept g ws d k n l m
         less = advance_less (shapes_granted g) ws ws d n (λ e y. refl);
       }
 
-  following_down : number ≡ 2 → Follows program g ts ws d k n l m (At (suc d) (first_at ws i) (count_at ws i) (first_at ws j) (count_at ws j))
-  unfolding pair_by PairsBy left_by met_by judged if◌then◌otherwise◌
-  following_down z =
+  following_down : Meets program g ts ws (d + 1) i j Groups → Follows program g ts ws d k n l m (Continue (ways_at (suc d) (first_at ws i) (count_at ws i) (first_at ws j) (count_at ws j)))
+  unfolding pair_by PairsBy left_by met_by
+  following_down s =
       let a = w.pairs in
-      let deep = s.deep z in
+      let deep = s.deep refl in
       let slot : slot_in (get_or ws (way_place d) 0) ≡ k = ap slot_in w.left ∙ slot_back k n 0 (omega (arith, a.small)) in
       let left : left_in (get_or ws (way_place d) 0) ≡ n = ap left_in w.left ∙ left_back k n 0 (omega (arith, a.few)) in
       let slot' : slot_in (get_or ws (waiting_place d) 0) ≡ l = ap slot_in w.right ∙ slot_back l m 0 (omega (arith, a.small')) in
       let left' : left_in (get_or ws (waiting_place d) 0) ≡ m = ap left_in w.right ∙ left_back l m 0 (omega (arith, a.few')) in
       record {
-        equal = λ p. sym (kept_down program g p d k n l m (raw ts ws) w i j (sym (met_as p) ∙ rw z));
+        equal = λ p. sym (kept_down program g p d k n l m (raw ts ws) w i j (sym (met_as Groups s p)));
         pairs = record {
           room = a.room;
           deep = omega (arith, deep);
@@ -461,26 +467,23 @@ module _ (program g ts ws : List ℕ) (d k n l m : ℕ) (w : Kept g ws d k n l m
         less = descend_less (shapes_granted g) ws ws d n (count_at ws i) a.deep (omega arith) left (λ e y. refl);
       }
 
-  pub follow_down : (k₁ n₁ l₁ m₁ : ℕ) → number ≡ 2 → k₁ ≡ first_at ws i → n₁ ≡ count_at ws i → l₁ ≡ first_at ws j → m₁ ≡ count_at ws j
-      → Follows program g ts ws d k n l m (At (d + 1) k₁ n₁ l₁ m₁)
-  follow_down k₁ n₁ l₁ m₁ z u v x y = let one : d + 1 ≡ suc d = omega arith in rw (u, v, x, y, one) (following_down z)
+  pub follow_down : (k₁ n₁ l₁ m₁ : ℕ) → Meets program g ts ws (d + 1) i j Groups → k₁ ≡ first_at ws i → n₁ ≡ count_at ws i → l₁ ≡ first_at ws j → m₁ ≡ count_at ws j
+      → Follows program g ts ws d k n l m (Continue (ways_at (d + 1) k₁ n₁ l₁ m₁))
+  follow_down k₁ n₁ l₁ m₁ s u v x y = let one : d + 1 ≡ suc d = omega arith in rw (u, v, x, y, one) (following_down s)
 
-module _ (g ws : List ℕ) (d k n l m : ℕ) (a : Pairs g ws d k (n + 1) l (m + 1)) (ok : Bool) (ws₁ : List ℕ) (h : Passes ws 79 (count g) ok ws₁) where
-  pub pair_stops : (program ts : List ℕ) → not ok ≡ true → PairedFirst program g ts ws d k n l m (Settled 79) ws₁
-  unfolding pair_by judged PairsBy left_by pair_first pair_at ◌>>=◌ go_on passed if◌then◌otherwise◌
-  pair_stops program ts t = record {
-    equal = λ p. let q = (rw (not-true ok t) at h).equal p ts in rw (← q);
+module _ (g : List ℕ) (p : ℕ) (ws : List ℕ) (d k n l m : ℕ) (a : Pairs g ws d k (n + 1) l (m + 1)) (ws₁ : List ℕ) where
+  pub pair_stops : (program ts : List ℕ) (s : Result (ControlFlow Bool Ways) Fault) (e : Fault) → Does ws (count g p) (Err e) ws₁ → IsErrAnd s (λ y. y ≡ e) → PairedFirst program g p ts ws d k n l m s ws₁
+  unfolding pair_by PairsBy left_by pair_first pair_at ◌>>=◌ go_on out_of
+  pair_stops program ts s e h i = rw (passed_on s i) record {
+    equal = let q = h.equal ts in rw (← q);
     pairs = tt;
     less = owed_some (shapes_granted g) ws d (suc n);
   }
 
-  module _ (t : not ok ≡ false) (ws₂ : List ℕ) (q : ws₂ ≡ both_laid ws₁ d k n l m) where
-    went : Passes ws 79 (count g) true ws₁
-    went = rw (not-false ok t) at h
-
+  module _ (h : Does ws (count g p) (Ok tt) ws₁) (ws₂ : List ℕ) (q : ws₂ ≡ both_laid ws₁ d k n l m) where
     counted : (at : ℕ) → 0 < at → get_or ws₁ at 0 ≡ get_or ws at 0
-    unfolding passed
-    counted at z = spared at (raw [] ws) (count g 0 (raw [] ws)) tt (raw [] ws₁) (count_spares g 0 at z (raw [] ws)) (sym (went.equal 0 []))
+    unfolding out_of
+    counted at z = spared at (raw [] ws) (count g p (raw [] ws)) tt (raw [] ws₁) (count_spares g p at z (raw [] ws)) (sym (h.equal []))
 
     -- the depths above are as they were
     above_kept : (at : ℕ) → 0 < at → at < way_place d → get_or (both_laid ws₁ d k n l m) at 0 ≡ get_or ws at 0
@@ -510,21 +513,21 @@ module _ (g ws : List ℕ) (d k n l m : ℕ) (a : Pairs g ws d k (n + 1) l (m + 
           right = get_or-set_same (set ws₁ (way_place d) (way_word k n 0)) (waiting_place d) (way_word l m 0) 0 (omega (arith, z));
         }
 
-    pub pair_follows : (program ts : List ℕ) (r : PairTurn) → Follows program g ts ws₂ d k n l m r → PairedFirst program g ts ws d k n l m r ws₂
+    pub pair_follows : (program ts : List ℕ) (r : ControlFlow Bool Ways) → Follows program g ts ws₂ d k n l m r → PairedFirst program g p ts ws d k n l m (Ok r) ws₂
     unfolding owed
     pair_follows program ts r w =
         let v = rw q at w in
         let same = same_owed (shapes_granted g) ws (both_laid ws₁ d k n l m) d (λ e y. above_kept (way_place e) (omega arith) (omega arith)) in
         rw q record {
-          equal = λ p. v.equal p ∙ sym (first_kept program g p d k n l m ts ws ws₁ went);
+          equal = v.equal p ∙ sym (first_kept program g p d k n l m ts ws ws₁ h);
           pairs = v.pairs;
           less = rw same at v.less;
         }
 
 -- ---- the loop
-pub record PairsGo (program g ts : List ℕ) (i j : ℕ) (ws₀ ws : List ℕ) (d k n l m : ℕ) : Type 0 where
-  pub rest : (p : ℕ) → pair_rest program g p d k n l m (raw ts ws) ≡ pair_level program g p 0 (first_at ws₀ i) (count_at ws₀ i) (first_at ws₀ j) (count_at ws₀ j) (raw ts ws₀)
-  pub pairs : Pairs g ws d k n l m
+pub record PairsGo (program g : List ℕ) (p : ℕ) (ts : List ℕ) (i j : ℕ) (ws₀ ws : List ℕ) (w : Ways) : Type 0 where
+  pub rest : pair_rest program g p w.depth w.slot w.left w.other_slot w.other_left (raw ts ws) ≡ pair_level program g p 0 (first_at ws₀ i) (count_at ws₀ i) (first_at ws₀ j) (count_at ws₀ j) (raw ts ws₀)
+  pub pairs : Pairs g ws w.depth w.slot w.left w.other_slot w.other_left
   pub long : length ws ≡ length ws₀
 
 then_given : (o : Out Bool) → go_on o (λ b. give b) ≡ o
@@ -532,11 +535,11 @@ unfolding go_on give
 then_given (done b r) = refl
 then_given (stop n p r) = refl
 
-module _ (program g ts : List ℕ) (i j : ℕ) (ws₀ : List ℕ) where
-  pub pairs_first : (k n l m : ℕ) → Within g ws₀ → k ≡ first_at ws₀ i → n ≡ count_at ws₀ i → l ≡ first_at ws₀ j → m ≡ count_at ws₀ j → PairsGo program g ts i j ws₀ ws₀ 0 k n l m
+module _ (program g : List ℕ) (p : ℕ) (ts : List ℕ) (i j : ℕ) (ws₀ : List ℕ) where
+  pub pairs_first : (k n l m : ℕ) → Within g ws₀ → k ≡ first_at ws₀ i → n ≡ count_at ws₀ i → l ≡ first_at ws₀ j → m ≡ count_at ws₀ j → PairsGo program g p ts i j ws₀ ws₀ (ways_at 0 k n l m)
   unfolding pair_rest pair_above ◌>>=◌
   pairs_first k n l m w e f h q = record {
-    rest = λ p. then_given (pair_level program g p 0 k n l m (raw ts ws₀)) ∙ rw (e, f, h, q);
+    rest = then_given (pair_level program g p 0 k n l m (raw ts ws₀)) ∙ rw (e, f, h, q);
     pairs = record {
       room = w.room;
       deep = w.some;
@@ -550,32 +553,49 @@ module _ (program g ts : List ℕ) (i j : ℕ) (ws₀ : List ℕ) where
     long = refl;
   }
 
-  module _ (ws : List ℕ) (d k n l m : ℕ) (a : PairsGo program g ts i j ws₀ ws d k n l m) (t : PairTurn) (ws' : List ℕ) (r : Paired program g ts ws d k n l m t ws') where
-    pub pairs_next : (d' k' n' l' m' : ℕ) → t ≡ At d' k' n' l' m' → length ws' ≡ length ws → PairsGo program g ts i j ws₀ ws' d' k' n' l' m'
+  module _ (ws : List ℕ) (w : Ways) (a : PairsGo program g p ts i j ws₀ ws w) (ws' : List ℕ) where
+    abbrev Turn : Result (ControlFlow Bool Ways) Fault → Type 0
+    Turn t = Paired program g p ts ws w.depth w.slot w.left w.other_slot w.other_left t ws'
+
+    abbrev whole : Act Bool
+    whole = pair_level program g p 0 (first_at ws₀ i) (count_at ws₀ i) (first_at ws₀ j) (count_at ws₀ j)
+
+    pub pairs_next : (t : Ways) → Turn (Ok (Continue t)) → length ws' ≡ length ws → PairsGo program g p ts i j ws₀ ws' t
     unfolding pair_by PairsBy
-    pairs_next d' k' n' l' m' e x = let q = rw e at r in record { rest = λ p. q.equal p ∙ a.rest p; pairs = q.pairs; long = x ∙ a.long }
+    pairs_next t r x = record { rest = r.equal ∙ a.rest; pairs = r.pairs; long = x ∙ a.long }
 
-    pub pairs_less : (d' k' n' l' m' : ℕ) → t ≡ At d' k' n' l' m' → owed (shapes_granted g) ws' d' n' < owed (shapes_granted g) ws d n
+    pub pairs_less : (t : Ways) → Turn (Ok (Continue t)) → owed (shapes_granted g) ws' t.depth t.left < owed (shapes_granted g) ws w.depth w.left
     unfolding left_by
-    pairs_less d' k' n' l' m' e = let q = rw e at r in q.less
+    pairs_less t r = r.less
 
-    pub pairs_settled : (v : ℕ) → t ≡ Settled v → PairsWithin program g ts ws₀ i j v ws'
-    unfolding pair_by
-    pairs_settled v e = let q = rw e at r in record { equal = λ p. q.equal p ∙ a.rest p }
+    pub pairs_settled : (b : Bool) → Turn (Ok (Break b)) → DoesIn ts ws₀ whole (Ok b) ts ws'
+    unfolding pair_by out_of
+    pairs_settled b r = record { equal = r.equal ∙ a.rest }
+
+    pub pairs_stop : (s : Result Bool Fault) (e : Fault) → Turn (Err e) → IsErrAnd s (λ y. y ≡ e) → DoesIn ts ws₀ whole s ts ws'
+    unfolding pair_by out_of
+    pairs_stop s e r i = rw (passed_on s i) record { equal = r.equal ∙ a.rest }
 
 -- ---- two shapes at the start
-module _ (program g ts ws : List ℕ) (i j v : ℕ) (s : Meets program g ts ws 0 i j v) where
-  met_whole : (p : ℕ) → met_by program g p v 0 i j ts ws ≡ alike_at (figures_same program) (shapes_granted g) g p 0 i j (raw ts ws)
-  met_whole p = let z : shapes_granted g - 0 ≡ shapes_granted g = omega arith in rw z at (s.equal p)
+module _ (program g : List ℕ) (p : ℕ) (ts ws : List ℕ) (i j : ℕ) where
+  met_whole : (v : Met) → Meets program g ts ws 0 i j v → met_by program g p v 0 i j ts ws ≡ alike_at (figures_same program) (shapes_granted g) g p 0 i j (raw ts ws)
+  met_whole v s = let z : shapes_granted g - 0 ≡ shapes_granted g = omega arith in rw z at (s.equal p)
 
-  pub alike_met : (v ≡ 2 → ⊥) → Alike program g ts ws i j v ws
-  unfolding met_by if◌then◌otherwise◌
-  alike_met h = record { equal = λ p. (rw (ne_eqb v 2 h) at (met_whole p)) }
+  abbrev Compared : Result Bool Fault → List ℕ → Type 0
+  Compared s ws' = DoesIn ts ws (alike_at (figures_same program) (shapes_granted g) g p 0 i j) s ts ws'
 
-  module _ (h : v ≡ 2) where
+  pub alike_apart : Meets program g ts ws 0 i j Apart → Compared (Ok false) ws
+  unfolding met_by out_of
+  alike_apart s = record { equal = met_whole Apart s }
+
+  pub alike_same : Meets program g ts ws 0 i j Same → Compared (Ok true) ws
+  unfolding met_by out_of
+  alike_same s = record { equal = met_whole Same s }
+
+  module _ (s : Meets program g ts ws 0 i j Groups) where
     pub within_asks : Room g ws → Within g ws
-    within_asks r = record { room = r; some = s.deep h }
+    within_asks r = record { room = r; some = s.deep refl }
 
-    pub alike_within : (r : ℕ) (ws' : List ℕ) → PairsWithin program g ts ws i j r ws' → Alike program g ts ws i j r ws'
-    unfolding met_by if◌then◌otherwise◌
-    alike_within r ws' w = record { equal = λ p. w.equal p ∙ (rw h at (met_whole p)) }
+    pub alike_within : (r : Result Bool Fault) (ws' : List ℕ) → DoesIn ts ws (pair_level program g p 0 (first_at ws i) (count_at ws i) (first_at ws j) (count_at ws j)) r ts ws' → Compared r ws'
+    unfolding met_by
+    alike_within r ws' w = record { equal = w.equal ∙ met_whole Groups s }

@@ -1,18 +1,18 @@
 -- Two groups compared pair by pair, as a loop does it: at depth d, n components are left from slot k on and m from slot l on, and what is left at the
 -- depths above stands in the words of the way, on both sides.
-use Rattle.std.specs.Prelude.{ℕ, zero, suc, ◌+◌, ◌-◌, ◌^◌, ◌<◌, ◌≡◌, Bool, false, List, get_or, set, eqb, ltb}
+use Rattle.std.specs.Prelude.{ℕ, zero, suc, ◌+◌, ◌-◌, ◌^◌, ◌<◌, ◌≡◌, Bool, true, false, List, Result, Ok, Err, get_or, set}
 use Rattle.meaning.specs.Basics.{if◌then◌otherwise◌}
 use Rattle.machine.specs.Layout.{shapes_granted, Room}
 use Rattle.machine.specs.Act.{raw, Out, done, stop, Act, ◌>>=◌, ◌>>◌, give, load, store, held, count}
 use Rattle.machine.specs.Groups.{component_at, first_at, count_at, way_word, way_place, waiting_place, pairs_from, alike_at}
 use Rattle.machine.specs.Operate.{figures_same}
 use Rattle.walks.specs.Walks.{slot_in, left_in, owed}
-use Rattle.pairs.specs.declared.PairTurn.{PairTurn}
-use Rattle.pairs.specs.declared.PairTurn.TheVariants.{At, Settled}
-
--- a verdict: 0 unequal, 1 equal, any other the number it stops with
-unfoldable pub judged : ℕ → ℕ → List ℕ → List ℕ → Out Bool
-judged number p ts ws = if ltb 1 number then (λ _. stop number p (raw ts ws)) otherwise λ _. done (eqb number 1) (raw ts ws)
+use Rattle.std.proofs.Common.{ControlFlow, Continue, Break}
+use Rattle.machine.specs.declared.Fault.{Fault}
+use Rattle.machine.specs.Fault.{number_of, place_of}
+use Rattle.pairs.specs.declared.Ways.{Ways}
+use Rattle.pairs.specs.declared.Met.{Met}
+use Rattle.pairs.specs.declared.Met.TheVariants.{Apart, Same, Groups}
 
 -- both ways kept at a depth
 unfoldable pub both_laid : List ℕ → ℕ → ℕ → ℕ → ℕ → ℕ → List ℕ
@@ -54,15 +54,16 @@ module _ (program g : List ℕ) (p : ℕ) where
   unfoldable pub pair_first : ℕ → ℕ → ℕ → ℕ → ℕ → Act Bool
   pair_first d k n l m = pair_at (shapes_granted g - suc d) d k n l m >>= pair_after d k n l m >>= pair_above d
 
-  unfoldable pub pair_by : PairTurn → List ℕ → List ℕ → Out Bool
-  pair_by (At d k n l m) ts ws = pair_rest d k n l m (raw ts ws)
-  pair_by (Settled number) ts ws = judged number p ts ws
+  unfoldable pub pair_by : Result (ControlFlow Bool Ways) Fault → List ℕ → List ℕ → Out Bool
+  pair_by (Ok (Continue w)) ts ws = pair_rest w.depth w.slot w.left w.other_slot w.other_left (raw ts ws)
+  pair_by (Ok (Break b)) ts ws = done b (raw ts ws)
+  pair_by (Err e) ts ws = stop (number_of e) (place_of e) (raw ts ws)
 
-  -- what two shapes at depth d come to: 0 unequal, 1 equal, 2 two groups
-  unfoldable pub met_by : ℕ → ℕ → ℕ → ℕ → List ℕ → List ℕ → Out Bool
-  met_by number d i j ts ws =
-      if eqb number 2 then (λ _. pair_level d (first_at ws i) (count_at ws i) (first_at ws j) (count_at ws j) (raw ts ws))
-      otherwise λ _. judged number p ts ws
+  -- what two shapes at depth d come to
+  unfoldable pub met_by : Met → ℕ → ℕ → ℕ → List ℕ → List ℕ → Out Bool
+  met_by Apart d i j ts ws = done false (raw ts ws)
+  met_by Same d i j ts ws = done true (raw ts ws)
+  met_by Groups d i j ts ws = pair_level d (first_at ws i) (count_at ws i) (first_at ws j) (count_at ws j) (raw ts ws)
 
 -- ---- the places are in their ranges
 pub record Pairs (g ws : List ℕ) (d k n l m : ℕ) : Type 0 where
@@ -75,14 +76,16 @@ pub record Pairs (g ws : List ℕ) (d k n l m : ℕ) : Type 0 where
   pub ways : (e : ℕ) → e < d → slot_in (get_or ws (way_place e) 0) + left_in (get_or ws (way_place e) 0) + 1 < 2 ^ 17
   pub ways' : (e : ℕ) → e < d → slot_in (get_or ws (waiting_place e) 0) + left_in (get_or ws (waiting_place e) 0) + 1 < 2 ^ 17
 
-unfoldable pub PairsBy : List ℕ → List ℕ → PairTurn → Type 0
-PairsBy g ws (At d k n l m) = Pairs g ws d k n l m
-PairsBy g ws (Settled number) = Unit {0}
+unfoldable pub PairsBy : List ℕ → List ℕ → Result (ControlFlow Bool Ways) Fault → Type 0
+PairsBy g ws (Ok (Continue w)) = Pairs g ws w.depth w.slot w.left w.other_slot w.other_left
+PairsBy g ws (Ok (Break b)) = Unit {0}
+PairsBy g ws (Err e) = Unit {0}
 
 -- how much is left, by the left side
-unfoldable pub left_by : ℕ → List ℕ → PairTurn → ℕ
-left_by size ws (At d k n l m) = owed size ws d n
-left_by size ws (Settled number) = 0
+unfoldable pub left_by : ℕ → List ℕ → Result (ControlFlow Bool Ways) Fault → ℕ
+left_by size ws (Ok (Continue w)) = owed size ws w.depth w.left
+left_by size ws (Ok (Break b)) = 0
+left_by size ws (Err e) = 0
 
 -- what the parts ask
 pub record Passing (g ws : List ℕ) (k n : ℕ) : Type 0 where
@@ -105,40 +108,38 @@ pub record Within (g ws : List ℕ) : Type 0 where
 
 -- ---- what the parts do
 -- back at a depth
-unfoldable pub back_both : List ℕ → ℕ → PairTurn
-back_both ws d =
-    At d (slot_in (get_or ws (way_place d) 0) + 1) (left_in (get_or ws (way_place d) 0)) (slot_in (get_or ws (waiting_place d) 0) + 1) (left_in (get_or ws (waiting_place d) 0))
+unfoldable pub back_both : List ℕ → ℕ → Ways
+back_both ws d = record {
+  depth = d;
+  slot = slot_in (get_or ws (way_place d) 0) + 1;
+  left = left_in (get_or ws (way_place d) 0);
+  other_slot = slot_in (get_or ws (waiting_place d) 0) + 1;
+  other_left = left_in (get_or ws (waiting_place d) 0);
+}
 
-pub record Paired (program g ts ws : List ℕ) (d k n l m : ℕ) (turn : PairTurn) (ws' : List ℕ) : Type 0 where
-  pub equal : (p : ℕ) → pair_by program g p turn ts ws' ≡ pair_rest program g p d k n l m (raw ts ws)
+pub record Paired (program g : List ℕ) (p : ℕ) (ts ws : List ℕ) (d k n l m : ℕ) (turn : Result (ControlFlow Bool Ways) Fault) (ws' : List ℕ) : Type 0 where
+  pub equal : pair_by program g p turn ts ws' ≡ pair_rest program g p d k n l m (raw ts ws)
   pub pairs : PairsBy g ws' turn
   pub less : left_by (shapes_granted g) ws' turn < owed (shapes_granted g) ws d n
 
 -- the same of a pair that is not destroyed on either side
-pub record PairedFirst (program g ts ws : List ℕ) (d k n l m : ℕ) (turn : PairTurn) (ws' : List ℕ) : Type 0 where
-  pub equal : (p : ℕ) → pair_by program g p turn ts ws' ≡ pair_first program g p d k n l m (raw ts ws)
+pub record PairedFirst (program g : List ℕ) (p : ℕ) (ts ws : List ℕ) (d k n l m : ℕ) (turn : Result (ControlFlow Bool Ways) Fault) (ws' : List ℕ) : Type 0 where
+  pub equal : pair_by program g p turn ts ws' ≡ pair_first program g p d k n l m (raw ts ws)
   pub pairs : PairsBy g ws' turn
   pub less : left_by (shapes_granted g) ws' turn < owed (shapes_granted g) ws d (suc n)
 
 -- its ways are kept: the words are not changed
-pub record Follows (program g ts ws : List ℕ) (d k n l m : ℕ) (turn : PairTurn) : Type 0 where
-  pub equal : (p : ℕ) → pair_by program g p turn ts ws ≡ pair_kept program g p d k n l m (raw ts ws)
-  pub pairs : PairsBy g ws turn
-  pub less : left_by (shapes_granted g) ws turn < owed (shapes_granted g) ws d (suc n)
+pub record Follows (program g ts ws : List ℕ) (d k n l m : ℕ) (turn : ControlFlow Bool Ways) : Type 0 where
+  pub equal : (p : ℕ) → pair_by program g p (Ok turn) ts ws ≡ pair_kept program g p d k n l m (raw ts ws)
+  pub pairs : PairsBy g ws (Ok turn)
+  pub less : left_by (shapes_granted g) ws (Ok turn) < owed (shapes_granted g) ws d (suc n)
 
 -- the end of a level on the left side
-pub record PairEnds (g ws : List ℕ) (d k l m : ℕ) (turn : PairTurn) : Type 0 where
-  pub equal : (program ts : List ℕ) (p : ℕ) → pair_by program g p turn ts ws ≡ pair_rest program g p d k 0 l m (raw ts ws)
-  pub pairs : PairsBy g ws turn
-  pub less : left_by (shapes_granted g) ws turn < owed (shapes_granted g) ws d 0
+pub record PairEnds (g ws : List ℕ) (d k l m : ℕ) (turn : ControlFlow Bool Ways) : Type 0 where
+  pub equal : (program ts : List ℕ) (p : ℕ) → pair_by program g p (Ok turn) ts ws ≡ pair_rest program g p d k 0 l m (raw ts ws)
+  pub pairs : PairsBy g ws (Ok turn)
+  pub less : left_by (shapes_granted g) ws (Ok turn) < owed (shapes_granted g) ws d 0
 
-pub record Meets (program g ts ws : List ℕ) (d i j number : ℕ) : Type 0 where
-  pub equal : (p : ℕ) → met_by program g p number d i j ts ws ≡ alike_at (figures_same program) (shapes_granted g - d) g p d i j (raw ts ws)
-  pub deep : number ≡ 2 → d < shapes_granted g
-  pub small : number < 3
-
-pub record PairsWithin (program g ts ws : List ℕ) (i j number : ℕ) (ws' : List ℕ) : Type 0 where
-  pub equal : (p : ℕ) → judged number p ts ws' ≡ pair_level program g p 0 (first_at ws i) (count_at ws i) (first_at ws j) (count_at ws j) (raw ts ws)
-
-pub record Alike (program g ts ws : List ℕ) (i j number : ℕ) (ws' : List ℕ) : Type 0 where
-  pub equal : (p : ℕ) → judged number p ts ws' ≡ alike_at (figures_same program) (shapes_granted g) g p 0 i j (raw ts ws)
+pub record Meets (program g ts ws : List ℕ) (d i j : ℕ) (met : Met) : Type 0 where
+  pub equal : (p : ℕ) → met_by program g p met d i j ts ws ≡ alike_at (figures_same program) (shapes_granted g - d) g p d i j (raw ts ws)
+  pub deep : met ≡ Groups → d < shapes_granted g

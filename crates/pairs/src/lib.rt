@@ -2,20 +2,33 @@
 #![tactic(auto)]
 
 ghost use Rattle.std.specs.Prelude.{◌+◌, ◌≡◌};
-ghost use Rattle.machine.specs.Layout.{Room};
-ghost use Rattle.machine.specs.Groups.{way_word, passed_from};
-ghost use Rattle.pairs.specs.Pairs.{both_laid, back_both, Passing, Backs, Pairs, Kept, Within, Paired, PairedFirst, Follows, PairEnds, Meets, PairsWithin, Alike};
+ghost use Rattle.machine.specs.Act.{DoesIn};
+ghost use Rattle.machine.specs.Groups.{way_word, passed_from, first_at, count_at, alike_at};
+ghost use Rattle.machine.specs.Layout.{shapes_granted, Room};
+ghost use Rattle.machine.specs.Operate.{figures_same};
+ghost use Rattle.pairs.specs.Pairs.{both_laid, back_both, pair_level, Passing, Backs, Pairs, Kept, Within, Paired, PairedFirst, Follows, PairEnds, Meets};
 
 use figures::comparing;
-use machine::granted;
+use machine::{Fault, granted};
+use std::ops::ControlFlow;
 use stores::{components, counters, shapes, words};
 
-// Where a comparison of two groups is: its depth, and on each side the slot of the next component and how many are left there;
-// or its verdict, 0 for unequal and 1 for equal, or the number that it stops with.
+// Where a comparison of two groups is: its depth, and on each side the slot of the next component and how many are left there.
 #[derive(Clone, Copy)]
-pub enum PairTurn {
-    At(u32, u32, u32, u32, u32),
-    Settled(u64),
+pub struct Ways {
+    pub depth: u32,
+    pub slot: u32,
+    pub left: u32,
+    pub other_slot: u32,
+    pub other_left: u32,
+}
+
+// What two shapes come to: they differ, they are two equal figures, or all in two groups is to be compared.
+#[derive(Clone, Copy)]
+pub enum Met {
+    Apart,
+    Same,
+    Groups,
 }
 
 // How many of n components from slot k on stand before the first that is not destroyed.
@@ -23,15 +36,13 @@ fn passed_from(words: &[u64], grants: &[u64; 5], k: u32, n: u32) -> u32
     requires { Passing grants.now words.now k n }
     ensures { result ≡ passed_from grants.now words.now k n }
 {
-    let mut y = 0;
-    while y < n {
+    for y in 0..n {
         let c = components::component_at(words, grants, k + y);
         if !shapes::is_destroyed(words, c) {
             return y;
         }
-        y += 1;
     }
-    y
+    n
 }
 
 // A slot and how many components follow there.
@@ -42,46 +53,46 @@ fn way_word(k: u32, n: u32) -> u64
 }
 
 // Keeps the ways at a depth.
-fn keep(words: &mut [u64], d: u32, k: u32, n: u32, l: u32, m: u32)
-    ensures { words.new ≡ both_laid words.old d k n l m }
+fn keep(words: &mut [u64], w: Ways)
+    ensures { words.new ≡ both_laid words.old w.depth w.slot w.left w.other_slot w.other_left }
 {
-    let at = shapes::place_of(d) + 3;
-    words::put_word(words, at, way_word(k, n));
-    words::put_word(words, at + 1, way_word(l, m));
+    let at = shapes::place_of(w.depth) + 3;
+    words::put_word(words, at, way_word(w.slot, w.left));
+    words::put_word(words, at + 1, way_word(w.other_slot, w.other_left));
 }
 
 // Back at a depth, behind the slots where it was left.
-fn back(words: &[u64], d: u32) -> PairTurn
+fn back(words: &[u64], d: u32) -> Ways
     requires { Backs words.now d }
     ensures { result ≡ back_both words.now d }
 {
     let at = shapes::place_of(d) + 3;
     let w = words::word_at(words, at);
     let v = words::word_at(words, at + 1);
-    PairTurn::At(
-        d,
-        (w % 4294967296) as u32 + 1,
-        (w / 4294967296 % 65536) as u32,
-        (v % 4294967296) as u32 + 1,
-        (v / 4294967296 % 65536) as u32,
-    )
+    Ways {
+        depth: d,
+        slot: (w % 4294967296) as u32 + 1,
+        left: (w / 4294967296 % 65536) as u32,
+        other_slot: (v % 4294967296) as u32 + 1,
+        other_left: (v / 4294967296 % 65536) as u32,
+    }
 }
 
 // The left side's end at a depth: the right side must be at its end too.
-fn end(words: &[u64], grants: &[u64; 5], d: u32, k: u32, l: u32, m: u32) -> PairTurn
-    requires { Pairs grants.now words.now d k 0 l m }
-    ensures { PairEnds grants.now words.now d k l m result }
+fn end(words: &[u64], grants: &[u64; 5], w: Ways) -> ControlFlow<bool, Ways>
+    requires { Pairs grants.now words.now w.depth w.slot 0 w.other_slot w.other_left }
+    ensures { PairEnds grants.now words.now w.depth w.slot w.other_slot w.other_left result }
 {
-    if passed_from(words, grants, l, m) != m {
-        return PairTurn::Settled(0);
+    if passed_from(words, grants, w.other_slot, w.other_left) != w.other_left {
+        return ControlFlow::Break(false);
     }
-    if d == 0 {
-        return PairTurn::Settled(1);
+    if w.depth == 0 {
+        return ControlFlow::Break(true);
     }
-    back(words, d - 1)
+    ControlFlow::Continue(back(words, w.depth - 1))
 }
 
-// Two shapes at a depth: 0 unequal, 1 equal, 2 if both are groups.
+// Two shapes at a depth.
 fn meet<'a>(
     program: &'a [u8],
     texts: &'a [u8],
@@ -90,25 +101,25 @@ fn meet<'a>(
     d: u32,
     i: u32,
     j: u32,
-) -> u64
+) -> Met
     ensures { Meets program.now grants.now texts.now words.now d i j result }
 {
     if grants[granted::SHAPES] <= d as u64 {
-        return 0;
+        return Met::Apart;
     }
     if shapes::is_group(words, i) {
         if shapes::is_group(words, j) {
-            return 2;
+            return Met::Groups;
         }
-        return 0;
+        return Met::Apart;
     }
     if shapes::is_group(words, j) {
-        return 0;
+        return Met::Apart;
     }
     if comparing::same_shape(program, texts, words, i, j) {
-        return 1;
+        return Met::Same;
     }
-    0
+    Met::Apart
 }
 
 // What follows a pair whose ways are kept: down into two groups, on behind two equal figures, or the verdict.
@@ -117,50 +128,47 @@ fn follow<'a>(
     texts: &'a [u8],
     words: &[u64],
     grants: &[u64; 5],
-    d: u32,
-    k: u32,
-    n: u32,
-    l: u32,
-    m: u32,
-) -> PairTurn
-    requires { Kept grants.now words.now d k n l m }
-    ensures { Follows program.now grants.now texts.now words.now d k n l m result }
+    w: Ways,
+) -> ControlFlow<bool, Ways>
+    requires { Kept grants.now words.now w.depth w.slot w.left w.other_slot w.other_left }
+    ensures { Follows program.now grants.now texts.now words.now
+        w.depth w.slot w.left w.other_slot w.other_left result }
 {
-    let i = components::component_at(words, grants, k);
-    let j = components::component_at(words, grants, l);
-    match meet(program, texts, words, grants, d + 1, i, j) {
-        1 => PairTurn::At(d, k + 1, n, l + 1, m),
-        2 => PairTurn::At(
-            d + 1,
-            components::first_at(words, i),
-            components::count_at(words, i),
-            components::first_at(words, j),
-            components::count_at(words, j),
-        ),
-        _ => PairTurn::Settled(0),
+    let i = components::component_at(words, grants, w.slot);
+    let j = components::component_at(words, grants, w.other_slot);
+    match meet(program, texts, words, grants, w.depth + 1, i, j) {
+        Met::Apart => ControlFlow::Break(false),
+        Met::Same => ControlFlow::Continue(Ways {
+            slot: w.slot + 1,
+            other_slot: w.other_slot + 1,
+            ..w
+        }),
+        Met::Groups => ControlFlow::Continue(Ways {
+            depth: w.depth + 1,
+            slot: components::first_at(words, i),
+            left: components::count_at(words, i),
+            other_slot: components::first_at(words, j),
+            other_left: components::count_at(words, j),
+        }),
     }
 }
 
-// A pair, its slots followed by n and m components: a step is counted for it.
+// A pair, by its slots and how many components follow them: a step is counted for it.
 fn pair<'a>(
     program: &'a [u8],
     texts: &'a [u8],
     words: &mut [u64],
     grants: &[u64; 5],
-    d: u32,
-    k: u32,
-    n: u32,
-    l: u32,
-    m: u32,
-) -> PairTurn
-    requires { Pairs grants.now words.old d k (n + 1) l (m + 1) }
-    ensures { PairedFirst program.now grants.now texts.now words.old d k n l m result words.new }
+    p: u64,
+    w: Ways,
+) -> Result<ControlFlow<bool, Ways>, Fault>
+    requires { Pairs grants.now words.old w.depth w.slot (w.left + 1) w.other_slot (w.other_left + 1) }
+    ensures { PairedFirst program.now grants.now p texts.now words.old
+        w.depth w.slot w.left w.other_slot w.other_left result words.new }
 {
-    if !counters::count(words, grants) {
-        return PairTurn::Settled(79);
-    }
-    keep(words, d, k, n, l, m);
-    follow(program, texts, words, grants, d, k, n, l, m)
+    counters::take_step(words, grants, p)?;
+    keep(words, w);
+    Ok(follow(program, texts, words, grants, w))
 }
 
 // A turn: up from the end of a depth, past a destroyed component, or a pair.
@@ -169,76 +177,83 @@ fn turn<'a>(
     texts: &'a [u8],
     words: &mut [u64],
     grants: &[u64; 5],
-    d: u32,
-    k: u32,
-    n: u32,
-    l: u32,
-    m: u32,
-) -> PairTurn
-    requires { Pairs grants.now words.old d k n l m }
-    ensures { Paired program.now grants.now texts.now words.old d k n l m result words.new }
+    p: u64,
+    w: Ways,
+) -> Result<ControlFlow<bool, Ways>, Fault>
+    requires { Pairs grants.now words.old w.depth w.slot w.left w.other_slot w.other_left }
+    ensures { Paired program.now grants.now p texts.now words.old
+        w.depth w.slot w.left w.other_slot w.other_left result words.new }
 {
-    if n == 0 {
-        return end(words, grants, d, k, l, m);
+    if w.left == 0 {
+        return Ok(end(words, grants, w));
     }
-    if shapes::is_destroyed(words, components::component_at(words, grants, k)) {
-        return PairTurn::At(d, k + 1, n - 1, l, m);
+    if shapes::is_destroyed(words, components::component_at(words, grants, w.slot)) {
+        return Ok(ControlFlow::Continue(Ways {
+            slot: w.slot + 1,
+            left: w.left - 1,
+            ..w
+        }));
     }
-    let y = passed_from(words, grants, l, m);
-    if y == m {
-        return PairTurn::Settled(0);
+    let y = passed_from(words, grants, w.other_slot, w.other_left);
+    if y == w.other_left {
+        return Ok(ControlFlow::Break(false));
     }
-    let r = pair(program, texts, words, grants, d, k, n - 1, l + y, m - y - 1);
-    r
+    let pair_ways = Ways {
+        left: w.left - 1,
+        other_slot: w.other_slot + y,
+        other_left: w.other_left - y - 1,
+        ..w
+    };
+    pair(program, texts, words, grants, p, pair_ways)
 }
 
-// The contents of two groups: 0 unequal, 1 equal, 79 if the steps run out.
+// Whether the contents of two groups are equal.
 fn within<'a>(
     program: &'a [u8],
     texts: &'a [u8],
     words: &mut [u64],
     grants: &[u64; 5],
+    p: u64,
     i: u32,
     j: u32,
-) -> u64
+) -> Result<bool, Fault>
     requires { Within grants.now words.old }
-    ensures { PairsWithin program.now grants.now texts.now words.old i j result words.new }
+    ensures { DoesIn texts.now words.old
+        (pair_level program.now grants.now p 0 (first_at words.old i) (count_at words.old i) (first_at words.old j) (count_at words.old j))
+        result texts.now words.new }
 {
-    let mut d = 0;
-    let mut k = components::first_at(words, i);
-    let mut n = components::count_at(words, i);
-    let mut l = components::first_at(words, j);
-    let mut m = components::count_at(words, j);
+    let mut w = Ways {
+        depth: 0,
+        slot: components::first_at(words, i),
+        left: components::count_at(words, i),
+        other_slot: components::first_at(words, j),
+        other_left: components::count_at(words, j),
+    };
     loop {
-        match turn(program, texts, words, grants, d, k, n, l, m) {
-            PairTurn::At(d2, k2, n2, l2, m2) => {
-                d = d2;
-                k = k2;
-                n = n2;
-                l = l2;
-                m = m2;
-            }
-            PairTurn::Settled(number) => return number,
+        match turn(program, texts, words, grants, p, w)? {
+            ControlFlow::Continue(next) => w = next,
+            ControlFlow::Break(same) => return Ok(same),
         }
     }
 }
 
-// Two shapes: 0 unequal, 1 equal, 79 if the steps run out.
+// Whether two shapes are equal.
 pub fn alike<'a>(
     program: &'a [u8],
     texts: &'a [u8],
     words: &mut [u64],
     grants: &[u64; 5],
+    p: u64,
     i: u32,
     j: u32,
-) -> u64
+) -> Result<bool, Fault>
     requires { Room grants.now words.old }
-    ensures { Alike program.now grants.now texts.now words.old i j result words.new }
+    ensures { DoesIn texts.now words.old
+        (alike_at (figures_same program.now) (shapes_granted grants.now) grants.now p 0 i j) result texts.now words.new }
 {
-    let met = meet(program, texts, words, grants, 0, i, j);
-    if met != 2 {
-        return met;
+    match meet(program, texts, words, grants, 0, i, j) {
+        Met::Apart => Ok(false),
+        Met::Same => Ok(true),
+        Met::Groups => within(program, texts, words, grants, p, i, j),
     }
-    let r = within(program, texts, words, grants, i, j);
-    r
 }

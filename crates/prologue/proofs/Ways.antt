@@ -11,18 +11,20 @@ use lib.IntN.{ℤ}
 use mir.Syntax.{w32}
 use mir.Val.{to_z, of_z, SFits}
 use mir.Facts.{to_z-of_z}
-use lib.Dec.{eqb}
 use borrow.Author.Tests.{not-true, not-false, eq-eqb, ne_eqb}
 use borrow.Rule.Slice.PartMut.{mid_of, put_mid, mid_len}
+use Rattle.std.specs.Prelude.{Result, Ok, Err}
+use Rattle.machine.specs.declared.Fault.{Fault}
+use Rattle.machine.specs.Fault.{number_of, place_of}
 use Rattle.machine.specs.declared.Value.TheVariants.{Integer}
 use Rattle.machine.specs.Words.{packed}
 use Rattle.machine.specs.Layout.{calls_used, shapes_granted, entries_granted, calls_granted, argument_place, shape_place, entry_place, component_place, Room}
-use Rattle.machine.specs.Act.{raw, go_on, ◌>>=◌, give, fail, refuse, store, passed, Passes, Pays, Gives}
+use Rattle.machine.specs.Act.{raw, go_on, ◌>>=◌, give, fail, refuse, store, passed, Passes, Pays, Gives, out_of, Does}
 use Rattle.machine.specs.Variables.{set_variable}
 use Rattle.machine.specs.Procedures.{open_frame}
 use Rattle.stores.proofs.Acts.{after_pass, after_refusal, after_gift}
 use Rattle.machine.specs.Show.{show_scene}
-use Rattle.scene.specs.Measuring.{size_with, Finishes}
+use Rattle.scene.specs.Measuring.{size_with}
 use Rattle.prologue.specs.declared.Ending.TheVariants.{Complete, Stopped}
 use Rattle.prologue.specs.Prologue.{main_begins, Begins, main_ends, shown_ending, Blank}
 
@@ -118,15 +120,15 @@ left_room ws x h = record { steps = h.steps; shapes = h.shapes; entries = h.entr
 pub left_long : (ws : List ℕ) (x : ℕ) {n : ℕ} → n ≡ length (set ws calls_used x) → n ≡ length ws
 left_long ws x e = e ∙ length-set ws calls_used x
 
-module _ (program ts g ws ws₁ : List ℕ) (e : ws₁ ≡ set ws calls_used 0) (r : ℕ) (ws₂ : List ℕ) (f : Finishes ws₁ (show_scene (size_with program ts) g) r ws₂) where
-  left_so : (us : List ℕ) → passed (eqb r 0) r 0 us ws₂ ≡ main_ends program ts g (raw us ws)
+module _ (program ts g ws ws₁ : List ℕ) (e : ws₁ ≡ set ws calls_used 0) (ws₂ : List ℕ) where
+  left_so : (r : Result (Unit {0}) Fault) → Does ws₁ (show_scene (size_with program ts) g) r ws₂ → (us : List ℕ) → out_of r us ws₂ ≡ main_ends program ts g (raw us ws)
   unfolding main_ends ◌>>=◌ go_on store
-  left_so us = f.equal us ∙ rw e
+  left_so r f us = f.equal us ∙ rw e
 
-  pub left_short : (r ≡ 0 → ⊥) → Begins ws (main_ends program ts g) (Stopped r 0) ws₂
-  unfolding passed shown_ending
-  left_short n = record { equal = λ us. rw (ne_eqb r 0 n) at (left_so us) }
+  pub left_short : (y : Fault) (n p : ℕ) → Does ws₁ (show_scene (size_with program ts) g) (Err y) ws₂ → n ≡ number_of y → p ≡ place_of y → Begins ws (main_ends program ts g) (Stopped n p) ws₂
+  unfolding out_of shown_ending
+  left_short y n p f i j = rw (i, j) record { equal = left_so (Err y) f }
 
-  pub left_whole : r ≡ 0 → Begins ws (main_ends program ts g) Complete ws₂
-  unfolding passed shown_ending
-  left_whole n = record { equal = λ us. rw (eq-eqb r 0 n) at (left_so us) }
+  pub left_whole : Does ws₁ (show_scene (size_with program ts) g) (Ok tt) ws₂ → Begins ws (main_ends program ts g) Complete ws₂
+  unfolding out_of shown_ending
+  left_whole f = record { equal = left_so (Ok tt) f }

@@ -51,9 +51,8 @@ pub fn leave<'a>(program: &'a [u8], texts: &'a [u8], words: &mut [u64], grants: 
     ensures { Begins words.old (main_ends program.now texts.now grants.now) result words.new }
 {
     words[counters::CALLS] = 0;
-    let r = scene::measure_scene(program, texts, words, grants);
-    if r != 0 {
-        return Ending::Stopped(r, 0);
+    match scene::measure_scene(program, texts, words, grants) {
+        Ok(_) => Ending::Complete,
+        Err(e) => Ending::Stopped(e.number(), e.place()),
     }
-    Ending::Complete
 }

@@ -4,97 +4,106 @@
 
 ghost use Rattle.std.specs.Prelude.{◌≡◌};
 ghost use Rattle.machine.specs.Layout.{Room};
-ghost use Rattle.machine.specs.Act.{Answers};
+ghost use Rattle.machine.specs.Act.{Does};
 ghost use Rattle.machine.specs.Groups.{remake_left, remake_group};
-ghost use Rattle.walks.specs.Walks.{Ends, walking, Turned, Under};
+ghost use Rattle.walks.specs.Walks.{walking, Turned, Under};
 ghost use Rattle.figures.specs.Changes.{refusal};
 ghost use Rattle.remaking.specs.Remaking.{changing, renewed, remake_reached_by};
 
 use figures::changes;
 use groups::waiting;
-use machine::{Answer, Value, counters};
+use machine::{Fault, Value, counters};
 use stores::{components, shapes};
-use walks::Turn;
+use walks::Walk;
 
-// A figure is made anew and waits: 76 if no shape is left, else 0.
-fn renew(words: &mut [u64], grants: &[u64; 5], tag: u64, by: i32, c: u32) -> u64
+// A figure is made anew and waits.
+fn renew(
+    words: &mut [u64],
+    grants: &[u64; 5],
+    tag: u64,
+    by: i32,
+    p: u64,
+    c: u32,
+) -> Result<(), Fault>
     requires { (Room grants.now words.old) × (refusal tag by ≡ 0) }
-    ensures { Ends words.old (renewed grants.now tag by c words.old) result words.new }
+    ensures { Does words.old (renewed grants.now tag by c words.old p) result words.new }
 {
     let j = words[counters::SHAPES];
     let f = changes::changed(tag, shapes::figure_at(words, c), by);
-    match shapes::new_shape(words, grants, 0, f) {
-        Ok(_) => {
-            waiting::await_shape(words, j);
-            0
-        }
-        Err(_) => 76,
-    }
+    shapes::new_shape(words, grants, p, f)?;
+    waiting::await_shape(words, j);
+    Ok(())
 }
 
 // A component is reached: a step, and if it is no group it is made anew.
-fn reach(words: &mut [u64], grants: &[u64; 5], tag: u64, by: i32, c: u32) -> u64
+fn reach(
+    words: &mut [u64],
+    grants: &[u64; 5],
+    tag: u64,
+    by: i32,
+    p: u64,
+    c: u32,
+) -> Result<(), Fault>
     requires { (Room grants.now words.old) × (refusal tag by ≡ 0) }
-    ensures { Ends words.old (λ p. remake_reached_by grants.now tag by p c) result words.new }
+    ensures { Does words.old (remake_reached_by grants.now tag by p c) result words.new }
 {
-    if !stores::counters::count(words, grants) {
-        return 79;
-    }
+    stores::counters::take_step(words, grants, p)?;
     if shapes::is_group(words, c) {
-        return 0;
+        return Ok(());
     }
-    let r = renew(words, grants, tag, by, c);
-    r
+    renew(words, grants, tag, by, p, c)
 }
 
 // A turn of the walk.
-fn turn(words: &mut [u64], grants: &[u64; 5], tag: u64, by: i32, d: u32, k: u32, n: u32) -> Turn
-    requires { (Under grants.now words.old d k n) × (refusal tag by ≡ 0) }
-    ensures { Turned (remake_reached_by grants.now tag by) (remake_left grants.now) grants.now
-        words.old d k n result words.new }
+fn turn(
+    words: &mut [u64],
+    grants: &[u64; 5],
+    tag: u64,
+    by: i32,
+    p: u64,
+    w: Walk,
+) -> Result<Walk, Fault>
+    requires { (Under grants.now words.old w) × (refusal tag by ≡ 0) }
+    ensures { Turned (remake_reached_by grants.now tag by) (remake_left grants.now) grants.now p
+        words.old w result words.new }
 {
-    if n == 0 {
-        let left = waiting::leave_group(words, grants, d - 1);
-        if left != 0 {
-            return Turn::Stopped(left);
-        }
-        return walks::back_at(words, d - 1);
+    if w.left == 0 {
+        waiting::leave_group(words, grants, p, w.depth - 1)?;
+        return Ok(walks::back_at(words, w.depth - 1));
     }
-    let c = components::component_at(words, grants, k);
+    let c = components::component_at(words, grants, w.slot);
     if shapes::is_destroyed(words, c) {
-        return Turn::At(d, k + 1, n - 1);
+        return Ok(w.past());
     }
-    let reached = reach(words, grants, tag, by, c);
-    if reached != 0 {
-        return Turn::Stopped(reached);
-    }
+    reach(words, grants, tag, by, p, c)?;
     if !shapes::is_group(words, c) {
-        return Turn::At(d, k + 1, n - 1);
+        return Ok(w.past());
     }
-    let r = walks::descend(words, grants, d, k, n - 1, c);
-    r
+    Ok(walks::descend(words, grants, w.depth, w.slot, w.left - 1, c))
 }
 
 // All in group i.
-fn remake_within(words: &mut [u64], grants: &[u64; 5], tag: u64, by: i32, i: u32) -> u64
+fn remake_within(
+    words: &mut [u64],
+    grants: &[u64; 5],
+    tag: u64,
+    by: i32,
+    p: u64,
+    i: u32,
+) -> Result<(), Fault>
     requires { (Room grants.now words.old) × (refusal tag by ≡ 0) }
-    ensures { Ends words.old
-        (walking (remake_reached_by grants.now tag by) (remake_left grants.now) grants.now i) result words.new }
+    ensures { Does words.old
+        (walking (remake_reached_by grants.now tag by) (remake_left grants.now) grants.now i p) result words.new }
 {
-    let mut d = 0;
-    let mut k = components::first_at(words, i);
-    let mut n = walks::count_within(words, grants, 0, i);
-    while 0 < d + n {
-        match turn(words, grants, tag, by, d, k, n) {
-            Turn::At(e, l, m) => {
-                d = e;
-                k = l;
-                n = m;
-            }
-            Turn::Stopped(number) => return number,
-        }
+    let mut w = Walk {
+        depth: 0,
+        slot: components::first_at(words, i),
+        left: walks::count_within(words, grants, 0, i),
+    };
+    while 0 < w.depth + w.left {
+        w = turn(words, grants, tag, by, p, w)?;
     }
-    0
+    Ok(())
 }
 
 // Group i.
@@ -105,19 +114,12 @@ pub fn remake_group(
     by: i32,
     p: u64,
     i: u32,
-) -> Answer
+) -> Result<Value, Fault>
     requires { (Room grants.now words.old) × (refusal tag by ≡ 0) }
-    ensures { Answers words.old (remake_group grants.now p (changing tag by) i) result words.new }
+    ensures { Does words.old (remake_group grants.now p (changing tag by) i) result words.new }
 {
     words[counters::WAITING] = 0;
-    let within = remake_within(words, grants, tag, by, i);
-    if within != 0 {
-        return Answer::Bad(within, p);
-    }
-    let j = words[counters::SHAPES];
-    let gathered = waiting::gather(words, grants, 0);
-    if gathered != 0 {
-        return Answer::Bad(gathered, p);
-    }
-    Answer::Good(Value::Shape(j as u32))
+    remake_within(words, grants, tag, by, p, i)?;
+    let j = waiting::gather(words, grants, p, 0)?;
+    Ok(Value::Shape(j))
 }

@@ -1,8 +1,8 @@
 -- The walk over a scene that counts its components and the bytes of its lines.
-use Rattle.std.specs.Prelude.{◌≡◌, ℕ, List, length, ◌==◌}
+use Rattle.std.specs.Prelude.{ℕ, List, length}
 use Rattle.meaning.specs.Basics.{if◌then◌otherwise◌}
 use Rattle.meaning.specs.Picture.{line_of}
-use Rattle.machine.specs.Act.{Raw, raw, Act, give, held, count, passed, ◌>>=◌, ◌>>◌}
+use Rattle.machine.specs.Act.{Raw, raw, give, held, count, ◌>>=◌, ◌>>◌}
 use Rattle.machine.specs.Shapes.{is_group_at}
 use Rattle.machine.specs.Show.{measure}
 use Rattle.walks.specs.Walks.{Doing}
@@ -23,7 +23,3 @@ measure_reached program ts g p c =
 
 unfoldable pub nothing_left : Doing
 nothing_left p d = give tt
-
--- code that ends with the number 0 or stops with another, at place 0
-pub record Finishes (before : List ℕ) (act : Act (Unit {0})) (number : ℕ) (after : List ℕ) : Type 0 where
-  pub equal : (ts : List ℕ) → passed (number == 0) number 0 ts after ≡ act (raw ts before)

@@ -2,16 +2,16 @@
 ghost use Rattle.std.specs.Prelude.{◌≤◌, length, slice_index};
 ghost use Rattle.machine.specs.Words.{unpacked};
 ghost use Rattle.machine.specs.Layout.{declared, frame, fixed_words, Room};
-ghost use Rattle.machine.specs.Act.{Gives, Passes};
+ghost use Rattle.machine.specs.Act.{Does, Gives};
 ghost use Rattle.machine.specs.Show.{measure, show, show_in, show_from, show_scene};
-ghost use Rattle.walks.specs.Walks.{Ends, walking, Turned, Under};
-ghost use Rattle.scene.specs.Measuring.{size_with, measure_reached, nothing_left, Finishes};
+ghost use Rattle.walks.specs.Walks.{walking, Turned, Under};
+ghost use Rattle.scene.specs.Measuring.{size_with, measure_reached, nothing_left};
 
 use crate::lines;
 use frames::variables;
-use machine::{counters, kinds};
+use machine::{Fault, counters, kinds};
 use stores::{components, shapes};
-use walks::Turn;
+use walks::Walk;
 
 // Adds the length of a shape's line.
 fn measure<'a>(program: &'a [u8], texts: &'a [u8], words: &mut [u64], i: u32)
@@ -30,18 +30,15 @@ fn reach<'a>(
     words: &mut [u64],
     grants: &[u64; 5],
     c: u32,
-) -> bool
+) -> Result<(), Fault>
     requires { Room grants.now words.old }
-    ensures { Passes words.old 79 (λ p. measure_reached program.now texts.now grants.now p c) result words.new }
+    ensures { Does words.old (measure_reached program.now texts.now grants.now 0 c) result words.new }
 {
-    if !stores::counters::count(words, grants) {
-        return false;
+    stores::counters::take_step(words, grants, 0)?;
+    if !shapes::is_group(words, c) {
+        measure(program, texts, words, c);
     }
-    if shapes::is_group(words, c) {
-        return true;
-    }
-    measure(program, texts, words, c);
-    true
+    Ok(())
 }
 
 // A turn of the walk.
@@ -50,29 +47,24 @@ fn turn<'a>(
     texts: &'a [u8],
     words: &mut [u64],
     grants: &[u64; 5],
-    d: u32,
-    k: u32,
-    n: u32,
-) -> Turn
-    requires { Under grants.now words.old d k n }
-    ensures { Turned (measure_reached program.now texts.now grants.now) nothing_left grants.now
-        words.old d k n result words.new }
+    w: Walk,
+) -> Result<Walk, Fault>
+    requires { Under grants.now words.old w }
+    ensures { Turned (measure_reached program.now texts.now grants.now) nothing_left grants.now 0 words.old w
+        result words.new }
 {
-    if n == 0 {
-        return walks::back_at(words, d - 1);
+    if w.left == 0 {
+        return Ok(walks::back_at(words, w.depth - 1));
     }
-    let c = components::component_at(words, grants, k);
+    let c = components::component_at(words, grants, w.slot);
     if shapes::is_destroyed(words, c) {
-        return Turn::At(d, k + 1, n - 1);
+        return Ok(w.past());
     }
-    if !reach(program, texts, words, grants, c) {
-        return Turn::Stopped(79);
-    }
+    reach(program, texts, words, grants, c)?;
     if !shapes::is_group(words, c) {
-        return Turn::At(d, k + 1, n - 1);
+        return Ok(w.past());
     }
-    let r = walks::descend(words, grants, d, k, n - 1, c);
-    r
+    Ok(walks::descend(words, grants, w.depth, w.slot, w.left - 1, c))
 }
 
 // All in group i.
@@ -82,25 +74,20 @@ fn measure_within<'a>(
     words: &mut [u64],
     grants: &[u64; 5],
     i: u32,
-) -> u64
+) -> Result<(), Fault>
     requires { Room grants.now words.old }
-    ensures { Ends words.old
-        (walking (measure_reached program.now texts.now grants.now) nothing_left grants.now i) result words.new }
+    ensures { Does words.old
+        (walking (measure_reached program.now texts.now grants.now) nothing_left grants.now i 0) result words.new }
 {
-    let mut d = 0;
-    let mut k = components::first_at(words, i);
-    let mut n = walks::count_within(words, grants, 0, i);
-    while 0 < d + n {
-        match turn(program, texts, words, grants, d, k, n) {
-            Turn::At(e, l, m) => {
-                d = e;
-                k = l;
-                n = m;
-            }
-            Turn::Stopped(number) => return number,
-        }
+    let mut w = Walk {
+        depth: 0,
+        slot: components::first_at(words, i),
+        left: walks::count_within(words, grants, 0, i),
+    };
+    while 0 < w.depth + w.left {
+        w = turn(program, texts, words, grants, w)?;
     }
-    0
+    Ok(())
 }
 
 // A shape and all in it, if it is not destroyed.
@@ -110,19 +97,18 @@ fn measure_shape<'a>(
     words: &mut [u64],
     grants: &[u64; 5],
     i: u32,
-) -> u64
+) -> Result<(), Fault>
     requires { Room grants.now words.old }
-    ensures { Finishes words.old (show (size_with program.now texts.now) grants.now i) result words.new }
+    ensures { Does words.old (show (size_with program.now texts.now) grants.now i) result words.new }
 {
     if shapes::is_destroyed(words, i) {
-        return 0;
+        return Ok(());
     }
     if shapes::is_group(words, i) {
-        let r = measure_within(program, texts, words, grants, i);
-        return r;
+        return measure_within(program, texts, words, grants, i);
     }
     measure(program, texts, words, i);
-    0
+    Ok(())
 }
 
 // The shape that a word's value is.
@@ -132,16 +118,14 @@ fn measure_in<'a>(
     words: &mut [u64],
     grants: &[u64; 5],
     w: u64,
-) -> u64
+) -> Result<(), Fault>
     requires { Room grants.now words.old }
-    ensures { Finishes words.old (show_in (size_with program.now texts.now) grants.now (unpacked w)) result
-        words.new }
+    ensures { Does words.old (show_in (size_with program.now texts.now) grants.now (unpacked w)) result words.new }
 {
     if w % 8 != kinds::SHAPE {
-        return 0;
+        return Ok(());
     }
-    let r = measure_shape(program, texts, words, grants, values::number_of(w));
-    r
+    measure_shape(program, texts, words, grants, values::number_of(w))
 }
 
 // Those of all variables, in the order of their declarations.
@@ -150,36 +134,30 @@ fn measure_variables<'a>(
     texts: &'a [u8],
     words: &mut [u64],
     grants: &[u64; 5],
-) -> u64
+) -> Result<(), Fault>
     requires { Room grants.now words.old }
-    ensures { Finishes words.old
+    ensures { Does words.old
         (show_from (size_with program.now texts.now) grants.now (slice_index words.old frame) 0 (slice_index words.old declared)) result words.new }
 {
     let f = variables::frame(words);
     let n = variables::declared_count(words);
-    let mut k = 0;
-    while k < n {
+    for k in 0..n {
         let w = variables::holding_of(words, f, k);
-        let r = measure_in(program, texts, words, grants, w);
-        if r != 0 {
-            return r;
-        }
-        k += 1;
+        measure_in(program, texts, words, grants, w)?;
     }
-    0
+    Ok(())
 }
 
-// Leaves the bytes of all lines in the words: 79 if the steps run out, else 0.
+// Leaves the bytes of all lines in the words.
 pub fn measure_scene<'a>(
     program: &'a [u8],
     texts: &'a [u8],
     words: &mut [u64],
     grants: &[u64; 5],
-) -> u64
+) -> Result<(), Fault>
     requires { Room grants.now words.old }
-    ensures { Finishes words.old (show_scene (size_with program.now texts.now) grants.now) result words.new }
+    ensures { Does words.old (show_scene (size_with program.now texts.now) grants.now) result words.new }
 {
     words[counters::LINES_LENGTH] = 0;
-    let r = measure_variables(program, texts, words, grants);
-    r
+    measure_variables(program, texts, words, grants)
 }

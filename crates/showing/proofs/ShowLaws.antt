@@ -2,13 +2,13 @@
 -- Assumes nothing.
 use Prim.Native.Nat.{ℕ, zero, suc, ◌+◌, ◌-◌, ◌<◌}
 use mathlib.Core.Path.{◌≡◌, refl, ap, sym, ◌∙◌}
-use mathlib.Core.Bool.{Bool, true, false, not}
+use mathlib.Core.Bool.{Bool, true, false}
 use mathlib.Core.List.{List, [], ◌∷◌, ◌++◌, append_assoc}
 use native.Mathlib.Omega.{arith}
 use lib.ListN.{get_or, length, length-set}
 use lib.Seq.{get_or-set_same, get_or-set_other}
 use lib.Dec.{ltb}
-use borrow.Author.Tests.{not-true, not-false, lt-ltb, le-ltb}
+use borrow.Author.Tests.{lt-ltb, le-ltb}
 use Rattle.meaning.specs.Basics.{if◌then◌otherwise◌}
 use Rattle.meaning.specs.Picture.{lines_of}
 use Rattle.machine.specs.Layout.{fixed_words, shapes_granted, shape_place, component_place, waiting_held}
@@ -18,14 +18,15 @@ use Rattle.machine.specs.Shapes.{is_group_at, destroyed_at, figure_at}
 use Rattle.machine.specs.Groups.{component_at, first_at, count_at, way_place, way_word}
 use Rattle.machine.specs.Show.{shown_from, figures_in}
 use Rattle.picture.proofs.Frames.{lines_append}
-use Rattle.walks.specs.declared.Turn.{Turn}
-use Rattle.walks.specs.declared.Turn.TheVariants.{At}
-use Rattle.walks.specs.Walks.{slot_in, left_in, count_within, Walks, Under, back_at, way_laid, down_in, Descended}
+use Rattle.std.specs.Prelude.{Ok}
+use Rattle.walks.specs.declared.Walk.{Walk}
+use Rattle.walks.specs.Walks.{slot_in, left_in, count_within, Walks, WalksBy, owed_by, Turned, Under, past, back_at, way_laid, down_in, Descended}
 use Rattle.walks.proofs.WalkLaws.{Keeps, Steady, slot_back, left_back}
-use Rattle.walks.proofs.TurnLaws.{turn_climbs, turn_over, turn_figure, turn_group, less_one_lem}
+use Rattle.machine.proofs.Acts.{given}
+use Rattle.walks.proofs.TurnLaws.{walk_at, turn_climbs, turn_over, turn_figure, turn_group, less_one_lem}
 use Rattle.scene.specs.Scene.{figure_for, figures_for, shown_by}
 use Rattle.scene.specs.Measuring.{nothing_left}
-use Rattle.showing.specs.Showing.{Unmoved, lines_for, figure_within, shown_here, level_shown, above_shown, left_shown, ShownBy, Moved}
+use Rattle.showing.specs.Showing.{Unmoved, lines_for, figure_within, shown_here, level_shown, above_shown, left_shown, Moved}
 
 -- ---- all but the way
 pub unmoved_none : (g ws : List ℕ) → Unmoved g ws ws
@@ -134,72 +135,81 @@ nothing_steady : (g : List ℕ) → Steady g nothing_left nothing_left
 unfolding nothing_left give Keeps
 nothing_steady g = record { reached = λ p c e r l. refl; left = λ p d e r l. refl }
 
-module _ (g ws : List ℕ) (k : ℕ) where
-  climb_shown : (d n : ℕ) → (d + n ≡ 0 → ⊥) → n ≡ 0 → ShownBy g (shown_here g ws d k n) (left_shown g ws d k n) ws (back_at ws (d - 1))
-  unfolding ShownBy back_at shown_here left_shown level_shown above_shown shown_from
-  climb_shown zero n m z = absurd (m (omega arith))
-  climb_shown (suc d) n m z = rw (z, less_one_lem d)
+module _ (g ws : List ℕ) where
+  -- what a turn to a walk shows
+  abbrev Shows : ℕ → ℕ → ℕ → Walk → List ℕ → Type 0
+  Shows d k n next ws' = shown_here g ws d k n ++ left_shown g ws' next.depth next.slot next.left ≡ left_shown g ws d k n
 
-  pub moves_back : (d n : ℕ) → Under g ws d k n → n ≡ 0 → (t : Turn) → t ≡ back_at ws (d - 1) → Moved g ws d k n t ws
-  unfolding nothing_left give
-  moves_back d n u z t e =
-      let x = turn_climbs nothing_left nothing_left g ws k n z ws d u (nothing_steady g) (λ p us. refl) refl t e in
-      record { walks = x.walks; less = x.less; unmoved = unmoved_none g ws; shown = rw e (climb_shown d n u.more z) }
+  -- a turn as one that does nothing
+  moved : (w next : Walk) (ws' : List ℕ) → Turned nothing_left nothing_left g 0 ws w (Ok next) ws' → Unmoved g ws ws' → Shows w.depth w.slot w.left next ws' → Moved g ws w next ws'
+  unfolding WalksBy owed_by
+  moved w next ws' x u s = record { walks = x.walks; less = x.less; unmoved = u; shown = s }
 
-  module _ (d c : ℕ) (e : c ≡ component_at g ws k) (b : Bool) (f : b ≡ destroyed_at ws c) where
-    over_shown : (n : ℕ) → (n ≡ 0 → ⊥) → b ≡ true → ShownBy g (shown_here g ws d k n) (left_shown g ws d k n) ws (At d (k + 1) (n - 1))
-    unfolding ShownBy shown_here left_shown level_shown shown_from if◌then◌otherwise◌
-    over_shown zero m t = absurd (m refl)
-    over_shown (suc n) m t = rw (less_one_lem n, ← e, ← f, t)
+  module _ (k : ℕ) where
+    climb_shown : (d n : ℕ) → (d + n ≡ 0 → ⊥) → n ≡ 0 → Shows d k n (back_at ws (d - 1)) ws
+    unfolding back_at shown_here left_shown level_shown above_shown shown_from
+    climb_shown zero n m z = absurd (m (omega arith))
+    climb_shown (suc d) n m z = rw (z, less_one_lem d)
 
-    pub moves_over : (n : ℕ) → Under g ws d k n → (n ≡ 0 → ⊥) → b ≡ true → Moved g ws d k n (At d (k + 1) (n - 1)) ws
-    moves_over n u m t =
-        let x = turn_over nothing_left nothing_left g ws d k n c b u m e f t in
-        record { walks = x.walks; less = x.less; unmoved = unmoved_none g ws; shown = over_shown n m t }
+    module _ (d c : ℕ) (e : c ≡ component_at g ws k) (b : Bool) (f : b ≡ destroyed_at ws c) where
+      over_shown : (n : ℕ) → (n ≡ 0 → ⊥) → b ≡ true → Shows d k n (walk_at d (k + 1) (n - 1)) ws
+      unfolding shown_here left_shown level_shown shown_from if◌then◌otherwise◌
+      over_shown zero m t = absurd (m refl)
+      over_shown (suc n) m t = rw (less_one_lem n, ← e, ← f, t)
 
-    module _ (t : b ≡ false) (a : Bool) (i : a ≡ is_group_at ws c) where
-      figure_shown : (n : ℕ) → (n ≡ 0 → ⊥) → a ≡ false → ShownBy g (shown_here g ws d k n) (left_shown g ws d k n) ws (At d (k + 1) (n - 1))
-      unfolding ShownBy shown_here left_shown level_shown shown_from if◌then◌otherwise◌
-      figure_shown zero m v = absurd (m refl)
-      figure_shown (suc n) m v =
-          let one : d + 1 ≡ suc d = omega arith in
-          rw (less_one_lem n, ← e, ← f, t, ← i, v, one, figure_level g ws (suc d) c (sym i ∙ v)) (sym (append_assoc (figure_within g (suc d) c) _ _))
+      module _ (t : b ≡ false) (a : Bool) (i : a ≡ is_group_at ws c) where
+        figure_shown : (n : ℕ) → (n ≡ 0 → ⊥) → a ≡ false → Shows d k n (walk_at d (k + 1) (n - 1)) ws
+        unfolding shown_here left_shown level_shown shown_from if◌then◌otherwise◌
+        figure_shown zero m v = absurd (m refl)
+        figure_shown (suc n) m v =
+            let one : d + 1 ≡ suc d = omega arith in
+            rw (less_one_lem n, ← e, ← f, t, ← i, v, one, figure_level g ws (suc d) c (sym i ∙ v)) (sym (append_assoc (figure_within g (suc d) c) _ _))
 
-      pub moves_on : (n : ℕ) → Under g ws d k n → (n ≡ 0 → ⊥) → not a ≡ true → Moved g ws d k n (At d (k + 1) (n - 1)) ws
-      unfolding nothing_left give
-      moves_on n u m v =
-          let x = turn_figure nothing_left nothing_left g ws d k c e b f t ws (nothing_steady g) (λ p us. refl) refl a i n u m v in
-          record { walks = x.walks; less = x.less; unmoved = unmoved_none g ws; shown = figure_shown n m (not-true a v) }
+        level_more : (n : ℕ) → level_shown g ws d k (suc n) ≡ figures_in (shapes_granted g - suc d) g ws c ++ level_shown g ws d (k + 1) n
+        unfolding level_shown shown_from if◌then◌otherwise◌
+        level_more n = rw (← e, ← f, t)
 
-      level_more : (n : ℕ) → level_shown g ws d k (suc n) ≡ figures_in (shapes_granted g - suc d) g ws c ++ level_shown g ws d (k + 1) n
-      unfolding level_shown shown_from if◌then◌otherwise◌
-      level_more n = rw (← e, ← f, t)
+        group_shown : (n : ℕ) → Walks g ws (walk_at d k (suc n)) → a ≡ true → Shows d k (suc n) (down_in g (way_laid ws d k n) d c) (way_laid ws d k n)
+        unfolding shown_here left_shown above_shown down_in if◌then◌otherwise◌
+        group_shown n w v =
+            let one : d + 1 ≡ suc d = omega arith in
+            let deep : d < shapes_granted g = w.within (omega arith) in
+            let u = unmoved_laid g ws d k n deep in
+            let here = laid_here ws d k n (omega (arith, w.room.words)) in
+            let slot : slot_in (get_or (way_laid ws d k n) (way_place d) 0) ≡ k = ap slot_in here ∙ slot_back k n (get_or ws waiting_held 0) (omega (arith, w.small)) in
+            let left : left_in (get_or (way_laid ws d k n) (way_place d) 0) ≡ n = ap left_in here ∙ left_back k n (get_or ws waiting_held 0) (omega (arith, w.few)) in
+            let kind : is_group_at (way_laid ws d k n) c ≡ true = rw (same_first g ws (way_laid ws d k n) u c) (sym i ∙ v) in
+            let inner : level_shown g (way_laid ws d k n) (suc d) (first_at (way_laid ws d k n) c) (count_within g (way_laid ws d k n) (suc d) c) ≡ figures_in (shapes_granted g - suc d) g ws c =
+            sym (group_level g (way_laid ws d k n) (suc d) c kind) ∙ figures_same g ws (way_laid ws d k n) u (shapes_granted g - suc d) c in
+            rw (← e, ← f, t, ← i, v, one, inner, slot, left, level_same g ws (way_laid ws d k n) u d (k + 1) n, above_same g ws (way_laid ws d k n) u d (laid_above ws d k n))
+            (sym (ap (λ (l : List ℕ). l ++ above_shown g ws d) (level_more n) ∙ append_assoc (figures_in (shapes_granted g - suc d) g ws c) (level_shown g ws d (k + 1) n) (above_shown g ws d)))
 
-      group_shown : (n : ℕ) → Walks g ws d k (suc n) → a ≡ true
-          → ShownBy g (shown_here g ws d k (suc n)) (left_shown g ws d k (suc n)) (way_laid ws d k n) (down_in g (way_laid ws d k n) d c)
-      unfolding ShownBy shown_here left_shown above_shown down_in if◌then◌otherwise◌
-      group_shown n w v =
-          let one : d + 1 ≡ suc d = omega arith in
-          let deep : d < shapes_granted g = w.within (omega arith) in
-          let u = unmoved_laid g ws d k n deep in
-          let here = laid_here ws d k n (omega (arith, w.room.words)) in
-          let slot : slot_in (get_or (way_laid ws d k n) (way_place d) 0) ≡ k = ap slot_in here ∙ slot_back k n (get_or ws waiting_held 0) (omega (arith, w.small)) in
-          let left : left_in (get_or (way_laid ws d k n) (way_place d) 0) ≡ n = ap left_in here ∙ left_back k n (get_or ws waiting_held 0) (omega (arith, w.few)) in
-          let kind : is_group_at (way_laid ws d k n) c ≡ true = rw (same_first g ws (way_laid ws d k n) u c) (sym i ∙ v) in
-          let inner : level_shown g (way_laid ws d k n) (suc d) (first_at (way_laid ws d k n) c) (count_within g (way_laid ws d k n) (suc d) c) ≡ figures_in (shapes_granted g - suc d) g ws c =
-          sym (group_level g (way_laid ws d k n) (suc d) c kind) ∙ figures_same g ws (way_laid ws d k n) u (shapes_granted g - suc d) c in
-          rw (← e, ← f, t, ← i, v, one, inner, slot, left, level_same g ws (way_laid ws d k n) u d (k + 1) n, above_same g ws (way_laid ws d k n) u d (laid_above ws d k n))
-          (sym (ap (λ (l : List ℕ). l ++ above_shown g ws d) (level_more n) ∙ append_assoc (figures_in (shapes_granted g - suc d) g ws c) (level_shown g ws d (k + 1) n) (above_shown g ws d)))
+        group_shown_by : (n : ℕ) → Walks g ws (walk_at d k n) → (n ≡ 0 → ⊥) → a ≡ true → Shows d k n (down_in g (way_laid ws d k (n - 1)) d c) (way_laid ws d k (n - 1))
+        group_shown_by zero w m v = absurd (m refl)
+        group_shown_by (suc n) w m v = rw (less_one_lem n) (group_shown n w v)
 
-      pub moves_down : (n : ℕ) → Under g ws d k n → (n ≡ 0 → ⊥) → not a ≡ false → (ws' : List ℕ) (r : Turn) → Descended g ws d k (n - 1) c r ws' → Moved g ws d k n r ws'
-      unfolding nothing_left give
-      moves_down zero u m v ws' r x = absurd (m refl)
-      moves_down (suc n) u m v ws' r x =
-          let y = turn_group nothing_left nothing_left g ws d k c e b f t ws (nothing_steady g) (λ p us. refl) refl a i (suc n) u m v ws' r x in
-          let deep : d < shapes_granted g = u.walks.within (omega arith) in
-          record {
-            walks = y.walks;
-            less = y.less;
-            unmoved = rw (x.words, less_one_lem n) (unmoved_laid g ws d k n deep);
-            shown = rw (x.place, x.words, less_one_lem n) (group_shown n u.walks (not-false a v));
-          }
+  module _ (w : Walk) (u : Under g ws w) where
+    pub moves_back : w.left ≡ 0 → (t : Walk) → t ≡ back_at ws (w.depth - 1) → Moved g ws w t ws
+    unfolding nothing_left
+    moves_back z t e =
+        moved w t ws (turn_climbs nothing_left nothing_left g 0 ws w u z (nothing_steady g) (given tt) refl t e) (unmoved_none g ws) (rw e (climb_shown w.slot w.depth w.left u.more z))
+
+    module _ (m : w.left ≡ 0 → ⊥) (c : ℕ) (e : c ≡ component_at g ws w.slot) (b : Bool) (f : b ≡ destroyed_at ws c) where
+      pub moves_over : b ≡ true → (t : Walk) → t ≡ past w → Moved g ws w t ws
+      moves_over t r q =
+          moved w r ws (turn_over nothing_left nothing_left g 0 ws w u m c e b f t r q) (unmoved_none g ws) (rw q (over_shown w.slot w.depth c e b f w.left m t))
+
+      module _ (t : b ≡ false) (a : Bool) (i : a ≡ is_group_at ws c) where
+        pub moves_on : a ≡ false → (r : Walk) → r ≡ past w → Moved g ws w r ws
+        unfolding nothing_left
+        moves_on v r q =
+            moved w r ws (turn_figure nothing_left nothing_left g 0 ws w u m c e b f t (nothing_steady g) (given tt) refl a i v r q) (unmoved_none g ws)
+            (rw q (figure_shown w.slot w.depth c e b f t a i w.left m v))
+
+        pub moves_down : a ≡ true → (ws' : List ℕ) (r : Walk) → Descended g ws w.depth w.slot (w.left - 1) c r ws' → Moved g ws w r ws'
+        unfolding nothing_left
+        moves_down v ws' r x =
+            let deep : w.depth < shapes_granted g = u.walks.within (omega (arith, m)) in
+            moved w r ws' (turn_group nothing_left nothing_left g 0 ws w u m c e b f t (nothing_steady g) (given tt) refl a i v x)
+            (rw x.words (unmoved_laid g ws w.depth w.slot (w.left - 1) deep))
+            (rw (x.place, x.words) (group_shown_by w.slot w.depth c e b f t a i w.left u.walks m v))

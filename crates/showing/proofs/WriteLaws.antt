@@ -26,12 +26,11 @@ use Rattle.writing.proofs.Laying.{saturated_small, length_at, then}
 use Rattle.writing.proofs.Decimals.{decimal_short}
 use Rattle.picture.specs.Parts.{head, tail}
 use Rattle.picture.proofs.Frames.{length_head, length_tail, length_picture, picture_parts}
-use Rattle.walks.specs.declared.Turn.{Turn}
-use Rattle.walks.specs.declared.Turn.TheVariants.{At, Stopped}
-use Rattle.walks.specs.Walks.{count_within, owed, owed_by, Walks, WalksBy, Under}
-use Rattle.walks.proofs.TurnLaws.{room_same, walks_first}
+use Rattle.walks.specs.declared.Walk.{Walk}
+use Rattle.walks.specs.Walks.{count_within, Walks, Under}
+use Rattle.walks.proofs.TurnLaws.{walk_at, room_same, walks_first}
 use Rattle.scene.specs.Scene.{figure_for, figures_for, shown_by, shown_first, scene_in, word_of}
-use Rattle.showing.specs.Showing.{Unmoved, lines_for, figure_within, shown_here, level_shown, above_shown, left_shown, ShownBy, Moved, Shown, Pictured}
+use Rattle.showing.specs.Showing.{Unmoved, lines_for, figure_within, shown_here, level_shown, above_shown, left_shown, Moved, Shown, Pictured}
 use Rattle.scene.proofs.Figures.{seen}
 use Rattle.showing.proofs.ShowLaws.{unmoved_none, unmoved_then, same_fixed, lines_same, lines_more, figure_level, group_level, shown_by_same}
 
@@ -82,17 +81,17 @@ none_left : (g ws : List ℕ) (k : ℕ) → left_shown g ws 0 k 0 ≡ []
 unfolding left_shown level_shown above_shown shown_from
 none_left g ws k = refl
 
-pub record Showing (program ts g ws₀ : List ℕ) (i start : ℕ) (before ws now : List ℕ) (d k n at : ℕ) : Type 0 where
+pub record Showing (program ts g ws₀ : List ℕ) (i start : ℕ) (before ws now : List ℕ) (w : Walk) (at : ℕ) : Type 0 where
   pub shown : List ℕ
-  pub whole : shown ++ left_shown g ws d k n ≡ level_shown g ws₀ 0 (first_at ws₀ i) (count_within g ws₀ 0 i)
+  pub whole : shown ++ left_shown g ws w.depth w.slot w.left ≡ level_shown g ws₀ 0 (first_at ws₀ i) (count_within g ws₀ 0 i)
   pub wrote : WroteAt start (lines_for program ts ws₀ shown) before now at
   pub unmoved : Unmoved g ws₀ ws
-  pub walks : Walks g ws d k n
+  pub walks : Walks g ws w
   pub small : length before < 2 ^ 64
   pub kept : length now ≡ length before
 
 module _ (program ts g ws₀ : List ℕ) (i start : ℕ) (before : List ℕ) where
-  pub show_first : (k n : ℕ) → start < 2 ^ 64 → length before < 2 ^ 64 → Room g ws₀ → k ≡ first_at ws₀ i → n ≡ count_within g ws₀ 0 i → Showing program ts g ws₀ i start before ws₀ before 0 k n start
+  pub show_first : (k n : ℕ) → start < 2 ^ 64 → length before < 2 ^ 64 → Room g ws₀ → k ≡ first_at ws₀ i → n ≡ count_within g ws₀ 0 i → Showing program ts g ws₀ i start before ws₀ before (walk_at 0 k n) start
   unfolding left_shown above_shown figures_for lines_of
   show_first k n l s r e f = record {
     shown = [];
@@ -104,44 +103,33 @@ module _ (program ts g ws₀ : List ℕ) (i start : ℕ) (before : List ℕ) whe
     kept = refl;
   }
 
-  module _ (ws now : List ℕ) (d k n at : ℕ) (a : Showing program ts g ws₀ i start before ws now d k n at) where
-    pub show_under : 0 < d + n → Under g ws d k n
+  module _ (ws now : List ℕ) (w : Walk) (at : ℕ) (a : Showing program ts g ws₀ i start before ws now w at) where
+    pub show_under : 0 < w.depth + w.left → Under g ws w
     show_under h = record { walks = a.walks; more = λ e. omega arith }
 
-    pub show_over : d + n ≤ 0 → Shown program ts g ws₀ (level_shown g ws₀ 0 (first_at ws₀ i) (count_within g ws₀ 0 i)) start before ws now at
+    pub show_over : w.depth + w.left ≤ 0 → Shown program ts g ws₀ (level_shown g ws₀ 0 (first_at ws₀ i) (count_within g ws₀ 0 i)) start before ws now at
     show_over h =
-        let x : d ≡ 0 = omega arith in
-        let y : n ≡ 0 = omega arith in
+        let x : w.depth ≡ 0 = omega arith in
+        let y : w.left ≡ 0 = omega arith in
         let q : a.shown ≡ level_shown g ws₀ 0 (first_at ws₀ i) (count_within g ws₀ 0 i) = sym (nothing_left a.shown) ∙ (rw (x, y) at a.whole) in
         record { wrote = rw (← q) a.wrote; unmoved = a.unmoved }
       where
-        nothing_left : (shapes : List ℕ) → shapes ++ left_shown g ws 0 k 0 ≡ shapes
-        nothing_left shapes = ap (λ (x : List ℕ). shapes ++ x) (none_left g ws k) ∙ append-nil shapes
+        nothing_left : (shapes : List ℕ) → shapes ++ left_shown g ws 0 w.slot 0 ≡ shapes
+        nothing_left shapes = ap (λ (x : List ℕ). shapes ++ x) (none_left g ws w.slot) ∙ append-nil shapes
 
-    module _ (t : Turn) (ws' : List ℕ) (r : Moved g ws d k n t ws') where
-      pub show_next : (d' k' n' at' : ℕ) (after : List ℕ) → t ≡ At d' k' n' → WroteAt at (lines_for program ts ws (shown_here g ws d k n)) now after at'
-          → Showing program ts g ws₀ i start before ws' after d' k' n' at'
-      unfolding WalksBy ShownBy
-      show_next d' k' n' at' after e w =
-          let q = rw e at r in
-          record {
-            shown = a.shown ++ shown_here g ws d k n;
-            whole = append_assoc a.shown (shown_here g ws d k n) (left_shown g ws' d' k' n') ∙ ap (λ (x : List ℕ). a.shown ++ x) q.shown ∙ a.whole;
-            wrote = rw (lines_more program ts ws₀ a.shown (shown_here g ws d k n))
-                ((then) a.small a.wrote (rw (lines_same g ws₀ ws a.unmoved program ts (shown_here g ws d k n)) at w));
-            unmoved = unmoved_then a.unmoved q.unmoved;
-            walks = q.walks;
-            small = a.small;
-            kept = ap length w.laid ∙ length_at at _ now ∙ a.kept;
-          }
-
-      pub show_less : (d' k' n' : ℕ) → t ≡ At d' k' n' → owed (shapes_granted g) ws' d' n' < owed (shapes_granted g) ws d n
-      unfolding owed_by
-      show_less d' k' n' e = let q = rw e at r in q.less
-
-      pub show_never : (m : ℕ) → t ≡ Stopped m → ⊥
-      unfolding ShownBy
-      show_never m e = let q = rw e at r in q.shown
+    module _ (t : Walk) (ws' : List ℕ) (r : Moved g ws w t ws') where
+      pub show_next : (at' : ℕ) (after : List ℕ) → WroteAt at (lines_for program ts ws (shown_here g ws w.depth w.slot w.left)) now after at'
+          → Showing program ts g ws₀ i start before ws' after t at'
+      show_next at' after q = record {
+        shown = a.shown ++ shown_here g ws w.depth w.slot w.left;
+        whole = append_assoc a.shown (shown_here g ws w.depth w.slot w.left) (left_shown g ws' t.depth t.slot t.left) ∙ ap (λ (x : List ℕ). a.shown ++ x) r.shown ∙ a.whole;
+        wrote = rw (lines_more program ts ws₀ a.shown (shown_here g ws w.depth w.slot w.left))
+            ((then) a.small a.wrote (rw (lines_same g ws₀ ws a.unmoved program ts (shown_here g ws w.depth w.slot w.left)) at q));
+        unmoved = unmoved_then a.unmoved r.unmoved;
+        walks = r.walks;
+        small = a.small;
+        kept = ap length q.laid ∙ length_at at _ now ∙ a.kept;
+      }
 
 -- ---- a shape
 module _ (program ts g ws : List ℕ) (i : ℕ) (a : Bool) (e : a ≡ is_group_at ws i) where

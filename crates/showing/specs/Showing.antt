@@ -8,9 +8,8 @@ use Rattle.machine.specs.Shapes.{is_group_at, destroyed_at}
 use Rattle.machine.specs.Groups.{component_at, way_place}
 use Rattle.machine.specs.Show.{shown_from, figures_in}
 use Rattle.writing.specs.Placed.{WroteAt}
-use Rattle.walks.specs.declared.Turn.{Turn}
-use Rattle.walks.specs.declared.Turn.TheVariants.{At, Stopped}
-use Rattle.walks.specs.Walks.{slot_in, left_in, owed, owed_by, WalksBy}
+use Rattle.walks.specs.declared.Walk.{Walk}
+use Rattle.walks.specs.Walks.{slot_in, left_in, Walks, owed}
 use Rattle.scene.specs.Scene.{figures_for, scene_in}
 
 -- all but the words of the way is as it was
@@ -44,16 +43,12 @@ above_shown g ws (suc d) = level_shown g ws d (slot_in (get_or ws (way_place d) 
 unfoldable pub left_shown : List ℕ → List ℕ → ℕ → ℕ → ℕ → List ℕ
 left_shown g ws d k n = level_shown g ws d k n ++ above_shown g ws d
 
--- a turn, which never stops
-unfoldable pub ShownBy : List ℕ → List ℕ → List ℕ → List ℕ → Turn → Type 0
-ShownBy g here left ws' (At d k n) = here ++ left_shown g ws' d k n ≡ left
-ShownBy g here left ws' (Stopped number) = ⊥
-
-pub record Moved (g ws : List ℕ) (d k n : ℕ) (turn : Turn) (ws' : List ℕ) : Type 0 where
-  pub walks : WalksBy g ws' turn
-  pub less : owed_by (shapes_granted g) ws' turn < owed (shapes_granted g) ws d n
+-- a turn
+pub record Moved (g ws : List ℕ) (w next : Walk) (ws' : List ℕ) : Type 0 where
+  pub walks : Walks g ws' next
+  pub less : owed (shapes_granted g) ws' next.depth next.left < owed (shapes_granted g) ws w.depth w.left
   pub unmoved : Unmoved g ws ws'
-  pub shown : ShownBy g (shown_here g ws d k n) (left_shown g ws d k n) ws' turn
+  pub shown : shown_here g ws w.depth w.slot w.left ++ left_shown g ws' next.depth next.slot next.left ≡ left_shown g ws w.depth w.slot w.left
 
 -- lines written from a place on
 pub record Shown (program ts g ws shapes : List ℕ) (at : ℕ) (before ws' after : List ℕ) (next : ℕ) : Type 0 where

@@ -15,7 +15,7 @@ use frames::variables;
 use machine::{counters, granted, kinds};
 use scene::lines;
 use stores::{components, shapes};
-use walks::Turn;
+use walks::Walk;
 
 // The word of the k-th declaration's variable.
 fn declared_word(words: &[u64], k: usize) -> u64
@@ -45,52 +45,49 @@ fn write_figure<'a>(
     lines::write_line_of(program, texts, words, i, out, at)
 }
 
-// The line of the component in slot k, if it is a figure; n are left there.
+// The line of the component that a walk is at, if it is a figure.
 fn write_reached<'a>(
     program: &'a [u8],
     texts: &'a [u8],
     words: &[u64],
     grants: &[u64; 5],
-    d: u32,
-    k: u32,
-    n: u32,
+    w: Walk,
     out: &mut [u8],
     at: usize,
 ) -> usize
-    requires { Under grants.now words.now d k n }
+    requires { Under grants.now words.now w }
     ensures { WroteAt at (lines_for program.now texts.now words.now
-        (shown_here grants.now words.now d k n)) out.old out.new result }
+        (shown_here grants.now words.now w.depth w.slot w.left)) out.old out.new result }
 {
-    if n == 0 {
+    if w.left == 0 {
         return at;
     }
-    let c = components::component_at(words, grants, k);
+    let c = components::component_at(words, grants, w.slot);
     if shapes::is_destroyed(words, c) {
         return at;
     }
     if shapes::is_group(words, c) {
         return at;
     }
-    write_figure(program, texts, words, grants, d + 1, c, out, at)
+    write_figure(program, texts, words, grants, w.depth + 1, c, out, at)
 }
 
 // A turn of the walk.
-fn turn(words: &mut [u64], grants: &[u64; 5], d: u32, k: u32, n: u32) -> Turn
-    requires { Under grants.now words.old d k n }
-    ensures { Moved grants.now words.old d k n result words.new }
+fn turn(words: &mut [u64], grants: &[u64; 5], w: Walk) -> Walk
+    requires { Under grants.now words.old w }
+    ensures { Moved grants.now words.old w result words.new }
 {
-    if n == 0 {
-        return walks::back_at(words, d - 1);
+    if w.left == 0 {
+        return walks::back_at(words, w.depth - 1);
     }
-    let c = components::component_at(words, grants, k);
+    let c = components::component_at(words, grants, w.slot);
     if shapes::is_destroyed(words, c) {
-        return Turn::At(d, k + 1, n - 1);
+        return w.past();
     }
     if !shapes::is_group(words, c) {
-        return Turn::At(d, k + 1, n - 1);
+        return w.past();
     }
-    let r = walks::descend(words, grants, d, k, n - 1, c);
-    r
+    walks::descend(words, grants, w.depth, w.slot, w.left - 1, c)
 }
 
 // The lines of all in group i.
@@ -108,20 +105,15 @@ fn write_within<'a>(
         (level_shown grants.now words.old 0 (first_at words.old i)
         (count_within grants.now words.old 0 i)) start out.old words.new out.new result }
 {
-    let mut d = 0;
-    let mut k = components::first_at(words, i);
-    let mut n = walks::count_within(words, grants, 0, i);
+    let mut w = Walk {
+        depth: 0,
+        slot: components::first_at(words, i),
+        left: walks::count_within(words, grants, 0, i),
+    };
     let mut at = start;
-    while 0 < d + n {
-        at = write_reached(program, texts, words, grants, d, k, n, out, at);
-        match turn(words, grants, d, k, n) {
-            Turn::At(e, l, m) => {
-                d = e;
-                k = l;
-                n = m;
-            }
-            Turn::Stopped(number) => return at,
-        }
+    while 0 < w.depth + w.left {
+        at = write_reached(program, texts, words, grants, w, out, at);
+        w = turn(words, grants, w);
     }
     at
 }
@@ -141,11 +133,9 @@ fn write_shape<'a>(
         (figures_in (shapes_granted grants.now) grants.now words.old i) at out.old words.new out.new result }
 {
     if shapes::is_group(words, i) {
-        let r = write_within(program, texts, words, grants, i, out, at);
-        return r;
+        return write_within(program, texts, words, grants, i, out, at);
     }
-    let r = write_figure(program, texts, words, grants, 0, i, out, at);
-    r
+    write_figure(program, texts, words, grants, 0, i, out, at)
 }
 
 // What a variable's word adds.
@@ -169,8 +159,7 @@ fn write_in<'a>(
     if shapes::is_destroyed(words, i) {
         return at;
     }
-    let r = write_shape(program, texts, words, grants, i, out, at);
-    r
+    write_shape(program, texts, words, grants, i, out, at)
 }
 
 // What all variables add, in the order of their declarations.
@@ -189,11 +178,9 @@ fn write_variables<'a>(
 {
     let n = variables::declared_count(words);
     let mut at = start;
-    let mut drawn = 0;
-    while drawn < n {
+    for drawn in 0..n {
         let w = declared_word(words, drawn);
         at = write_in(program, texts, words, grants, w, out, at);
-        drawn += 1;
     }
     at
 }
@@ -214,8 +201,7 @@ pub fn write_picture<'a>(
 {
     let first = picture::write_head_at(out, 0, width, height);
     let at = write_variables(program, texts, words, grants, out, first);
-    let r = picture::write_tail_at(out, at);
-    r
+    picture::write_tail_at(out, at)
 }
 
 // How many bytes the picture of a measured scene has, or the largest usize if that is less.

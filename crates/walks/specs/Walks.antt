@@ -1,18 +1,14 @@
 -- Walks over all that a group holds, as a loop makes them: at depth d, n components are left from slot k on, and what is left at the depths above
 -- stands in the words of the way.
-use Rattle.std.specs.Prelude.{ℕ, zero, suc, ◌+◌, ◌-◌, ◌*◌, ◌/◌, ◌%◌, ◌^◌, ◌≤◌, ◌<◌, ◌≡◌, List, get_or, set, eqb, ltb}
+use Rattle.std.specs.Prelude.{ℕ, zero, suc, ◌+◌, ◌-◌, ◌*◌, ◌/◌, ◌%◌, ◌^◌, ◌≤◌, ◌<◌, ◌≡◌, List, Result, Ok, Err, get_or, set, ltb}
 use Rattle.meaning.specs.Basics.{if◌then◌otherwise◌}
-use Rattle.machine.specs.Layout.{shapes_granted, Room}
-use Rattle.machine.specs.Act.{raw, Out, stop, Act, ◌>>=◌, ◌>>◌, give, load, store, held, passed}
+use Rattle.machine.specs.Layout.{shapes_granted, waiting_held, Room}
+use Rattle.machine.specs.Act.{raw, Out, stop, Act, ◌>>=◌, ◌>>◌, give, load, store, held}
 use Rattle.machine.specs.Shapes.{is_group_at}
 use Rattle.machine.specs.Groups.{first_at, count_at, way_word, way_place, each_from, walk_in}
-use Rattle.machine.specs.Layout.{waiting_held}
-use Rattle.walks.specs.declared.Turn.{Turn}
-use Rattle.walks.specs.declared.Turn.TheVariants.{At, Stopped}
-
--- code that ends with the number 0 or stops with another
-pub record Ends (before : List ℕ) (act : ℕ → Act (Unit {0})) (number : ℕ) (after : List ℕ) : Type 0 where
-  pub equal : (p : ℕ) (ts : List ℕ) → passed (eqb number 0) number p ts after ≡ act p (raw ts before)
+use Rattle.machine.specs.declared.Fault.{Fault}
+use Rattle.machine.specs.Fault.{number_of, place_of}
+use Rattle.walks.specs.declared.Walk.{Walk}
 
 -- what is done where a component is reached, and where a group is left, at a place
 abbrev pub Doing : Type 0
@@ -50,18 +46,18 @@ module _ (reach leave : Doing) (g : List ℕ) (p : ℕ) where
   unfoldable pub rest_of : ℕ → ℕ → ℕ → Act (Unit {0})
   rest_of d k n = level_from d k n >> above_of d
 
-  unfoldable pub rest_by : Turn → List ℕ → List ℕ → Out (Unit {0})
-  rest_by (At d k n) ts ws = rest_of d k n (raw ts ws)
-  rest_by (Stopped number) ts ws = stop number p (raw ts ws)
+  unfoldable pub rest_by : Result Walk Fault → List ℕ → List ℕ → Out (Unit {0})
+  rest_by (Ok w) ts ws = rest_of w.depth w.slot w.left (raw ts ws)
+  rest_by (Err e) ts ws = stop (number_of e) (place_of e) (raw ts ws)
 
 -- ---- the places of a walk are in their ranges
-pub record Walks (g ws : List ℕ) (d k n : ℕ) : Type 0 where
+pub record Walks (g ws : List ℕ) (w : Walk) : Type 0 where
   pub room : Room g ws
-  pub deep : d ≤ shapes_granted g
-  pub within : 0 < n → d < shapes_granted g
-  pub small : k + n < 2 ^ 17
-  pub few : n < 2 ^ 16
-  pub ways : (e : ℕ) → e < d → slot_in (get_or ws (way_place e) 0) + left_in (get_or ws (way_place e) 0) + 1 < 2 ^ 17
+  pub deep : w.depth ≤ shapes_granted g
+  pub within : 0 < w.left → w.depth < shapes_granted g
+  pub small : w.slot + w.left < 2 ^ 17
+  pub few : w.left < 2 ^ 16
+  pub ways : (e : ℕ) → e < w.depth → slot_in (get_or ws (way_place e) 0) + left_in (get_or ws (way_place e) 0) + 1 < 2 ^ 17
 
 -- how many components are counted below depth d
 unfoldable pub count_within : List ℕ → List ℕ → ℕ → ℕ → ℕ
@@ -82,45 +78,48 @@ owed_above size ws (suc d) = owed_above size ws d + weight size d (left_in (get_
 unfoldable pub owed : ℕ → List ℕ → ℕ → ℕ → ℕ
 owed size ws d n = owed_above size ws d + weight size d n
 
-unfoldable pub owed_by : ℕ → List ℕ → Turn → ℕ
-owed_by size ws (At d k n) = owed size ws d n
-owed_by size ws (Stopped number) = 0
+unfoldable pub owed_by : ℕ → List ℕ → Result Walk Fault → ℕ
+owed_by size ws (Ok w) = owed size ws w.depth w.left
+owed_by size ws (Err e) = 0
 
-unfoldable pub WalksBy : List ℕ → List ℕ → Turn → Type 0
-WalksBy g ws (At d k n) = Walks g ws d k n
-WalksBy g ws (Stopped number) = number ≡ 0 → ⊥
+unfoldable pub WalksBy : List ℕ → List ℕ → Result Walk Fault → Type 0
+WalksBy g ws (Ok w) = Walks g ws w
+WalksBy g ws (Err e) = Unit {0}
 
 -- ---- a turn
-pub record Turned (reach leave : Doing) (g ws : List ℕ) (d k n : ℕ) (turn : Turn) (ws' : List ℕ) : Type 0 where
-  pub equal : (p : ℕ) (ts : List ℕ) → rest_by reach leave g p turn ts ws' ≡ rest_of reach leave g p d k n (raw ts ws)
+pub record Turned (reach leave : Doing) (g : List ℕ) (p : ℕ) (ws : List ℕ) (w : Walk) (turn : Result Walk Fault) (ws' : List ℕ) : Type 0 where
+  pub equal : (ts : List ℕ) → rest_by reach leave g p turn ts ws' ≡ rest_of reach leave g p w.depth w.slot w.left (raw ts ws)
   pub walks : WalksBy g ws' turn
-  pub less : owed_by (shapes_granted g) ws' turn < owed (shapes_granted g) ws d n
+  pub less : owed_by (shapes_granted g) ws' turn < owed (shapes_granted g) ws w.depth w.left
 
 -- a walk that is not over
-pub record Under (g ws : List ℕ) (d k n : ℕ) : Type 0 where
-  pub walks : Walks g ws d k n
-  pub more : d + n ≡ 0 → ⊥
+pub record Under (g ws : List ℕ) (w : Walk) : Type 0 where
+  pub walks : Walks g ws w
+  pub more : w.depth + w.left ≡ 0 → ⊥
 
--- back at a depth, and down from one
-unfoldable pub back_at : List ℕ → ℕ → Turn
-back_at ws d = At d (slot_in (get_or ws (way_place d) 0) + 1) (left_in (get_or ws (way_place d) 0))
+-- past a component, back at a depth, and down from one
+abbrev pub past : Walk → Walk
+past w = record { depth = w.depth; slot = w.slot + 1; left = w.left - 1 }
+
+unfoldable pub back_at : List ℕ → ℕ → Walk
+back_at ws d = record { depth = d; slot = slot_in (get_or ws (way_place d) 0) + 1; left = left_in (get_or ws (way_place d) 0) }
 
 unfoldable pub way_laid : List ℕ → ℕ → ℕ → ℕ → List ℕ
 way_laid ws d k n = set ws (way_place d) (way_word k n (get_or ws waiting_held 0))
 
-unfoldable pub down_in : List ℕ → List ℕ → ℕ → ℕ → Turn
-down_in g ws d c = At (d + 1) (first_at ws c) (count_within g ws (d + 1) c)
+unfoldable pub down_in : List ℕ → List ℕ → ℕ → ℕ → Walk
+down_in g ws d c = record { depth = d + 1; slot = first_at ws c; left = count_within g ws (d + 1) c }
 
 -- what going down asks, and what it does
 pub record Descends (g ws : List ℕ) (d : ℕ) : Type 0 where
   pub room : Room g ws
   pub deep : d < shapes_granted g
 
-pub record Descended (g ws : List ℕ) (d k n c : ℕ) (turn : Turn) (ws' : List ℕ) : Type 0 where
+pub record Descended (g ws : List ℕ) (d k n c : ℕ) (down : Walk) (ws' : List ℕ) : Type 0 where
   pub words : ws' ≡ way_laid ws d k n
-  pub place : turn ≡ down_in g ws' d c
+  pub place : down ≡ down_in g ws' d c
 
 -- the same where nothing waits
-pub record Entered (g ws : List ℕ) (d k n c : ℕ) (turn : Turn) (ws' : List ℕ) : Type 0 where
+pub record Entered (g ws : List ℕ) (d k n c : ℕ) (down : Walk) (ws' : List ℕ) : Type 0 where
   pub words : ws' ≡ set ws (way_place d) (way_word k n 0)
-  pub place : turn ≡ At (d + 1) (first_at ws' c) (count_within g ws' (d + 1) c)
+  pub place : down ≡ down_in g ws' d c

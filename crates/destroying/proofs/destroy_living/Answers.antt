@@ -1,8 +1,12 @@
-use Rattle.destroying.proofs.DestroyLaws.{gone_before, living_gone}
+use mathlib.Core.Path.{sym, ◌∙◌}
+use Rattle.machine.specs.Groups.{destroy_living}
+use Rattle.machine.proofs.Acts.{holding, taken, other, given}
 use Rattle.destroying.proofs.destroy_living.Goals as goal
 
 pub returns-then-is_destroyed : goal.returns-then-is_destroyed
-returns-then-is_destroyed c = gone_before _ _ _ _ c.is_destroyed.ensures c.if-is_destroyed.true
+unfolding destroy_living
+returns-then-is_destroyed c = holding _ (taken _ _ _ (sym c.is_destroyed.ensures ∙ c.if-is_destroyed.true) (given tt))
 
 pub returns : goal.returns
-returns c = living_gone _ _ _ _ c.is_destroyed.ensures _ _ c.if-is_destroyed.false c.destroy_all-r.ensures
+unfolding destroy_living
+returns c = holding _ (other _ _ _ (sym c.is_destroyed.ensures ∙ c.if-is_destroyed.false) c.destroy_all.ensures)

@@ -1,24 +1,20 @@
-use native.Mathlib.Omega.{arith}
 use Rattle.walks.proofs.TurnLaws.{go_first, under, go_over, go_next, go_less, go_stops}
 use Rattle.destroying.proofs.destroy_within.Goals as goal
 
-pub loop-d-init : goal.loop-d-init
-loop-d-init c = search go_first
-
-pub overflow_add-d : goal.overflow_add-d
-overflow_add-d c = omega (arith, c.loop-d.invariant.walks.few, c.loop-d.invariant.walks.deep, c.requires.shapes)
+pub loop-w-init : goal.loop-w-init
+loop-w-init c = search go_first
 
 pub turn-requires : goal.turn-requires
 turn-requires c = search under
 
-pub loop-d-smaller : goal.loop-d-smaller
-loop-d-smaller c = search go_less
+pub returns-in_err-w : goal.returns-in_err-w
+returns-in_err-w c = go_stops _ _ _ _ _ _ _ _ c.loop-w.invariant _ c.in_err-w.ensures c.from_residual.ensures.1
 
-pub loop-d-preserved : goal.loop-d-preserved
-loop-d-preserved c = search go_next
+pub loop-w-smaller : goal.loop-w-smaller
+loop-w-smaller c = go_less _ _ _ _ _ _ _ _ c.loop-w.invariant _ _ c.in_ok-w.ensures
 
-pub returns-in-Stopped : goal.returns-in-Stopped
-returns-in-Stopped c = search go_stops
+pub loop-w-preserved : goal.loop-w-preserved
+loop-w-preserved c = go_next _ _ _ _ _ _ _ _ c.loop-w.invariant _ _ c.in_ok-w.ensures c.turn.auto.words
 
 pub returns : goal.returns
 returns c = search go_over

@@ -4,8 +4,8 @@ use Rattle.destroying.specs.Destroying.{destroy_reached, destroy_left}
 use Rattle.walks.proofs.TurnLaws.{Going}
 use Rattle.destroying.proofs.destroy_within.Given as goal
 
-abbrev pub invariant-loop-d : goal.invariant-loop-d
-invariant-loop-d l = Going (destroy_reached l.grants) destroy_left l.grants l.i l.initial.words l.words l.d l.k l.n
+abbrev pub invariant-loop-w : goal.invariant-loop-w
+invariant-loop-w l = Going (destroy_reached l.grants) destroy_left l.grants l.p l.i l.initial.words l.words l.w
 
-abbrev pub decreases-loop-d : goal.decreases-loop-d
-decreases-loop-d l = owed (shapes_granted l.grants) l.words l.d l.n
+abbrev pub decreases-loop-w : goal.decreases-loop-w
+decreases-loop-w l = owed (shapes_granted l.grants) l.words l.w.depth l.w.left

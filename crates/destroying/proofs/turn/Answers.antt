@@ -1,38 +1,42 @@
-use Rattle.walks.proofs.TurnLaws.{way_bound, turn_over, descends}
-use Rattle.destroying.proofs.DestroyLaws.{climbs_back, steps_short, figure_destroyed, group_destroyed}
-use mathlib.Core.Path.{◌∙◌}
+use mathlib.Core.Path.{refl, ◌∙◌}
+use Rattle.machine.proofs.Acts.{goes, fails, sure, given}
+use Rattle.walks.proofs.TurnLaws.{way_bound, past_bound, turn_climbs, turn_over, turn_stops, turn_figure, turn_group, descends}
+use Rattle.destroying.specs.Destroying.{destroy_reached, destroy_left}
+use Rattle.destroying.proofs.DestroyLaws.{destroying_steady}
 use Rattle.destroying.proofs.turn.Goals as goal
 
 pub back_at-requires : goal.back_at-requires
 back_at-requires c = search way_bound
 
-pub returns-then-n-eq0 : goal.returns-then-n-eq0
-returns-then-n-eq0 c = search climbs_back
+pub past-requires : goal.past-requires
+past-requires c = past_bound _ _ _ c.requires c.if-w-eq0.false
+
+pub past-requires-then-not-is_group : goal.past-requires-then-not-is_group
+past-requires-then-not-is_group c = past_bound _ _ _ c.requires c.if-w-eq0.false
+
+pub descend-requires : goal.descend-requires
+descend-requires c = descends _ _ _ _ c.requires c.if-w-eq0.false (c.destroy.auto.words ∙ c.take_step.auto.words)
+
+pub returns-then-w-eq0 : goal.returns-then-w-eq0
+unfolding destroy_left
+returns-then-w-eq0 c = turn_climbs _ _ _ _ _ _ c.requires c.if-w-eq0.true (destroying_steady _) (given tt) refl _ c.back_at.ensures
 
 pub returns-then-is_destroyed : goal.returns-then-is_destroyed
 returns-then-is_destroyed c = search turn_over
 
-pub returns-then-not-count : goal.returns-then-not-count
-returns-then-not-count c = search steps_short
+pub returns-in_err-take_step : goal.returns-in_err-take_step
+unfolding destroy_reached
+returns-in_err-take_step c = turn_stops _ _ _ _ _ _ c.requires c.if-w-eq0.false _ c.component_at-c.ensures _
+    c.is_destroyed.ensures c.if-is_destroyed.false (fails _ c.in_err-take_step.ensures) c.from_residual.ensures.1
 
 pub returns-then-not-is_group : goal.returns-then-not-is_group
-returns-then-not-is_group c = figure_destroyed _ _ _ _ _ c.requires c.if-n-eq0.false _
-    c.component_at-c.ensures _
-    c.is_destroyed.ensures
-    c.if-is_destroyed.false _ _
-    c.count.ensures c.if-not-count.false-raw _
-    c.destroy.ensures c.count.auto.words
-    c.destroy.auto.words _ c.is_group.ensures c.if-not-is_group.true-raw
-
-pub descend-r-requires : goal.descend-r-requires
-descend-r-requires c = descends _ _ _ _ _ _ c.requires c.if-n-eq0.false
-    (c.destroy.auto.words ∙ c.count.auto.words)
+unfolding destroy_reached
+returns-then-not-is_group c = turn_figure _ _ _ _ _ _ c.requires c.if-w-eq0.false _ c.component_at-c.ensures _
+    c.is_destroyed.ensures c.if-is_destroyed.false (destroying_steady _) (goes _ c.in_ok-take_step.ensures (sure c.destroy.ensures))
+    (c.destroy.auto.words ∙ c.take_step.auto.words) _ c.is_group.ensures c.if-not-is_group.true _ c.past-then-not-is_group.ensures
 
 pub returns : goal.returns
-returns c = group_destroyed _ _ _ _ _ c.requires c.if-n-eq0.false _ c.component_at-c.ensures _ c.is_destroyed.ensures c.if-is_destroyed.false _ _
-    c.count.ensures
-    c.if-not-count.false-raw _
-    c.destroy.ensures
-    c.count.auto.words
-    c.destroy.auto.words _ c.is_group.ensures
-    c.if-not-is_group.false-raw _ _ c.descend-r.ensures
+unfolding destroy_reached
+returns c = turn_group _ _ _ _ _ _ c.requires c.if-w-eq0.false _ c.component_at-c.ensures _
+    c.is_destroyed.ensures c.if-is_destroyed.false (destroying_steady _) (goes _ c.in_ok-take_step.ensures (sure c.destroy.ensures))
+    (c.destroy.auto.words ∙ c.take_step.auto.words) _ c.is_group.ensures c.if-not-is_group.false c.descend.ensures

@@ -1,11 +1,14 @@
-use Rattle.pairs.proofs.PairLaws.{alike_met, within_asks, alike_within}
+use Rattle.pairs.proofs.PairLaws.{alike_apart, alike_same, within_asks, alike_within}
 use Rattle.pairs.proofs.alike.Goals as goal
 
-pub returns-then-met-ne2 : goal.returns-then-met-ne2
-returns-then-met-ne2 c = search alike_met
+pub returns-in-Apart : goal.returns-in-Apart
+returns-in-Apart c = alike_apart _ _ _ _ _ _ _ c.in-Apart.ensures
 
-pub within-r-requires : goal.within-r-requires
-within-r-requires c = search within_asks
+pub returns-in-Same : goal.returns-in-Same
+returns-in-Same c = alike_same _ _ _ _ _ _ _ c.in-Same.ensures
 
-pub returns : goal.returns
-returns c = search alike_within
+pub within-requires : goal.within-requires
+within-requires c = within_asks _ _ c.args.p _ _ _ _ c.in-Groups.ensures c.requires
+
+pub returns-in-Groups : goal.returns-in-Groups
+returns-in-Groups c = alike_within _ _ _ _ _ _ _ c.in-Groups.ensures _ _ c.within.ensures

@@ -1,4 +1,3 @@
-use native.Mathlib.Omega.{arith}
 use Rattle.pairs.proofs.PairLaws.{pass_first, pass_last, pass_found, pass_next}
 use Rattle.pairs.proofs.passed_from.Goals as goal
 
@@ -7,12 +6,6 @@ loop-y-init c = search pass_first
 
 pub returns-then-not-is_destroyed : goal.returns-then-not-is_destroyed
 returns-then-not-is_destroyed c = search pass_found
-
-pub overflow_add-y : goal.overflow_add-y
-overflow_add-y c = omega arith
-
-pub loop-y-smaller : goal.loop-y-smaller
-loop-y-smaller c = omega arith
 
 pub loop-y-preserved : goal.loop-y-preserved
 loop-y-preserved c = search pass_next

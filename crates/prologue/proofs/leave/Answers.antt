@@ -1,11 +1,12 @@
+use mathlib.Core.Path.{refl}
 use Rattle.prologue.proofs.Ways.{left_room, left_short, left_whole}
 use Rattle.prologue.proofs.leave.Goals as goal
 
-pub measure_scene-r-requires : goal.measure_scene-r-requires
-measure_scene-r-requires c = left_room _ _ c.requires
+pub measure_scene-requires : goal.measure_scene-requires
+measure_scene-requires c = left_room _ _ c.requires
 
-pub returns-then-r-ne0 : goal.returns-then-r-ne0
-returns-then-r-ne0 c = search left_short
+pub returns-in-Err : goal.returns-in-Err
+returns-in-Err c = left_short _ _ _ _ _ refl _ _ _ _ c.in-Err.ensures c.number.ensures c.place.ensures
 
-pub returns : goal.returns
-returns c = search left_whole
+pub returns-in-Ok : goal.returns-in-Ok
+returns-in-Ok c = left_whole _ _ _ _ _ refl _ c.in-Ok.ensures

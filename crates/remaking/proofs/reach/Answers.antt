@@ -1,20 +1,24 @@
+use mathlib.Core.Path.{sym, ◌∙◌}
 use mir.Facts.{to_z-of_z}
+use Rattle.machine.specs.Groups.{remake_reached}
+use Rattle.machine.proofs.Acts.{goes, stops, holding, taken, other, given}
 use Rattle.walks.proofs.TurnLaws.{room_same}
-use Rattle.remaking.proofs.RemakingLaws.{no_step, group_met, figure_met}
+use Rattle.remaking.specs.Remaking.{renewed, remake_reached_by}
 use Rattle.remaking.proofs.reach.Goals as goal
 
-pub returns-then-not-count : goal.returns-then-not-count
-returns-then-not-count c = no_step _ _ _ _ _ _ _ c.count.ensures c.if-not-count.true-raw
+pub returns-in_err-take_step : goal.returns-in_err-take_step
+unfolding remake_reached_by remake_reached
+returns-in_err-take_step c = stops _ c.in_err-take_step.ensures c.from_residual.ensures.1
 
 pub returns-then-is_group : goal.returns-then-is_group
-returns-then-is_group c =
-    group_met _ _ _ _ _ _ _ c.count.ensures c.if-not-count.false-raw _ c.is_group.ensures c.if-is_group.true
+unfolding remake_reached_by remake_reached
+returns-then-is_group c = goes _ c.in_ok-take_step.ensures
+    (holding _ (taken _ _ _ (sym c.is_group.ensures ∙ c.if-is_group.true) (given tt)))
 
-pub renew-r-requires : goal.renew-r-requires
-renew-r-requires c =
-    (room_same c.requires.0 c.count.auto.words, rw (to_z-of_z c.ranges.by) c.requires.1)
+pub renew-requires : goal.renew-requires
+renew-requires c = (room_same c.requires.0 c.take_step.auto.words, rw (to_z-of_z c.ranges.by) c.requires.1)
 
 pub returns : goal.returns
-returns c =
-    figure_met _ _ _ _ _ _ _ c.count.ensures c.if-not-count.false-raw _ c.is_group.ensures c.ranges.by _ _
-    c.if-is_group.false c.renew-r.ensures
+unfolding remake_reached_by remake_reached renewed
+returns c = goes _ c.in_ok-take_step.ensures
+    (holding _ (other _ _ _ (sym c.is_group.ensures ∙ c.if-is_group.false) (rw (to_z-of_z c.ranges.by) at c.renew.ensures)))

@@ -1,26 +1,21 @@
-use native.Mathlib.Omega.{arith}
 use mir.Facts.{to_z-of_z}
 use Rattle.walks.proofs.TurnLaws.{go_first, under, go_over, go_next, go_less, go_stops}
-use Rattle.remaking.proofs.RemakingLaws.{walk_held}
 use Rattle.remaking.proofs.remake_within.Goals as goal
 
-pub loop-d-init : goal.loop-d-init
-loop-d-init c = search go_first
-
-pub overflow_add-d : goal.overflow_add-d
-overflow_add-d c = omega (arith, c.loop-d.invariant.walks.few, c.loop-d.invariant.walks.deep, c.requires.0.shapes)
+pub loop-w-init : goal.loop-w-init
+loop-w-init c = search go_first
 
 pub turn-requires : goal.turn-requires
 turn-requires c = (search under, rw (to_z-of_z c.ranges.by) c.requires.1)
 
-pub loop-d-smaller : goal.loop-d-smaller
-loop-d-smaller c = search go_less
+pub returns-in_err-w : goal.returns-in_err-w
+returns-in_err-w c = rw (to_z-of_z c.ranges.by) at (go_stops _ _ _ _ _ _ _ _ c.loop-w.invariant _ c.in_err-w.ensures c.from_residual.ensures.1)
 
-pub loop-d-preserved : goal.loop-d-preserved
-loop-d-preserved c = search go_next
+pub loop-w-smaller : goal.loop-w-smaller
+loop-w-smaller c = go_less _ _ _ _ _ _ _ _ c.loop-w.invariant _ _ c.in_ok-w.ensures
 
-pub returns-in-Stopped : goal.returns-in-Stopped
-returns-in-Stopped c = search (walk_held, go_stops)
+pub loop-w-preserved : goal.loop-w-preserved
+loop-w-preserved c = go_next _ _ _ _ _ _ _ _ c.loop-w.invariant _ _ c.in_ok-w.ensures c.turn.auto.words
 
 pub returns : goal.returns
-returns c = search (walk_held, go_over)
+returns c = rw (to_z-of_z c.ranges.by) at (go_over _ _ _ _ _ _ _ _ c.loop-w.invariant c.loop-w-test.false)

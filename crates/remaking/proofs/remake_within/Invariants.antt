@@ -5,8 +5,8 @@ use Rattle.walks.proofs.TurnLaws.{Going}
 use Rattle.remaking.specs.Remaking.{remake_reached_by}
 use Rattle.remaking.proofs.remake_within.Given as goal
 
-abbrev pub invariant-loop-d : goal.invariant-loop-d
-invariant-loop-d l = Going (remake_reached_by l.grants l.tag l.by) (remake_left l.grants) l.grants l.i l.initial.words l.words l.d l.k l.n
+abbrev pub invariant-loop-w : goal.invariant-loop-w
+invariant-loop-w l = Going (remake_reached_by l.grants l.tag l.by) (remake_left l.grants) l.grants l.p l.i l.initial.words l.words l.w
 
-abbrev pub decreases-loop-d : goal.decreases-loop-d
-decreases-loop-d l = owed (shapes_granted l.grants) l.words l.d l.n
+abbrev pub decreases-loop-w : goal.decreases-loop-w
+decreases-loop-w l = owed (shapes_granted l.grants) l.words l.w.depth l.w.left

@@ -1,8 +1,8 @@
 use Rattle.showing.proofs.WriteLaws.{reached_end, reached_gone, reached_group, reached_figure}
 use Rattle.showing.proofs.write_reached.Goals as goal
 
-pub returns-then-n-eq0 : goal.returns-then-n-eq0
-returns-then-n-eq0 c = search reached_end
+pub returns-then-w-eq0 : goal.returns-then-w-eq0
+returns-then-w-eq0 c = search reached_end
 
 pub returns-then-is_destroyed : goal.returns-then-is_destroyed
 returns-then-is_destroyed c = search reached_gone

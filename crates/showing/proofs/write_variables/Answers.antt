@@ -11,12 +11,6 @@ declared_word-w-requires c = omega (arith, c.requires.words, c.loop-drawn.invari
 pub write_in-at-requires : goal.write_in-at-requires
 write_in-at-requires c = search write_room
 
-pub overflow_add-drawn : goal.overflow_add-drawn
-overflow_add-drawn c = omega arith
-
-pub loop-drawn-smaller : goal.loop-drawn-smaller
-loop-drawn-smaller c = omega arith
-
 pub loop-drawn-preserved : goal.loop-drawn-preserved
 loop-drawn-preserved c =
     write_more _ _ _ _ _ _ _ _ _ _ _ c.loop-drawn.invariant _ _ _ _ (omega arith) c.loop-drawn-test.true c.declared_word-w.ensures c.write_in-at.ensures

@@ -1,13 +1,15 @@
 use native.Mathlib.Omega.{arith}
-use Rattle.groups.proofs.WaitingLaws.{leave_short, leaves}
+use Rattle.machine.specs.Groups.{remake_left}
+use Rattle.machine.proofs.Acts.{goes, stops, loading, sure}
 use Rattle.groups.proofs.waiting.leave_group.Goals as goal
 
-pub returns-then-r-ne0 : goal.returns-then-r-ne0
-returns-then-r-ne0 c = leave_short _ _ _ _ _ c.waiting_at-m.ensures _ c.gather-r.ensures c.if-r-ne0.true
+pub returns-in_err-j : goal.returns-in_err-j
+unfolding remake_left
+returns-in_err-j c = loading _ _ (stops _ (rw c.waiting_at-m.ensures at c.in_err-j.ensures) c.from_residual.ensures.1)
 
 pub await_shape-requires : goal.await_shape-requires
-await_shape-requires c = omega (arith, c.requires.words, c.gather-r.auto.words)
+await_shape-requires c = omega (arith, c.requires.words, c.gather.auto.words)
 
 pub returns : goal.returns
-returns c = leaves _ _ _ _ _ c.waiting_at-m.ensures _
-    c.gather-r.ensures _ c.if-r-ne0.false c.await_shape.ensures
+unfolding remake_left
+returns c = loading _ _ (goes _ (rw c.waiting_at-m.ensures at c.in_ok-j.ensures) (sure c.await_shape.ensures))

@@ -3,8 +3,8 @@ use Rattle.walks.specs.Walks.{owed}
 use Rattle.loops.proofs.MarkLaws.{Looks}
 use Rattle.loops.proofs.looking.look.Given as goal
 
-abbrev pub invariant-loop-d : goal.invariant-loop-d
-invariant-loop-d l = Looks l.grants l.first l.count l.initial.words l.words l.d l.k l.n
+abbrev pub invariant-loop-w : goal.invariant-loop-w
+invariant-loop-w l = Looks l.grants l.first l.count l.initial.words l.words l.w
 
-abbrev pub decreases-loop-d : goal.decreases-loop-d
-decreases-loop-d l = owed (shapes_granted l.grants) l.words l.d l.n
+abbrev pub decreases-loop-w : goal.decreases-loop-w
+decreases-loop-w l = owed (shapes_granted l.grants) l.words l.w.depth l.w.left

@@ -3,40 +3,35 @@ use Rattle.std.proofs.Common.{arith}
 use Rattle.loops.proofs.MarkLaws.{climb_first, climb_room, climb_last, behind_found, behind_none, behind_next}
 use Rattle.loops.proofs.looking.look_behind.Goals as goal
 
-pub loop-turns-init : goal.loop-turns-init
-loop-turns-init c = search climb_first
-
-pub overflow_sub-turns : goal.overflow_sub-turns
-overflow_sub-turns c = omega arith
+pub loop-turn-init : goal.loop-turn-init
+loop-turn-init c = climb_first _ _ _ _ _ (omega arith)
 
 pub look_after-found-requires : goal.look_after-found-requires
 look_after-found-requires c = search climb_room
 
 pub returns-then-found-ne0 : goal.returns-then-found-ne0
-returns-then-found-ne0 c = search behind_found
+returns-then-found-ne0 c = behind_found _ _ _ _ _ _ _ c.loop-turn.invariant (omega arith) _ _ c.look_after-found.ensures c.if-found-ne0.true
 
 pub next_marked-up-requires : goal.next_marked-up-requires
-next_marked-up-requires c = room_same (climb_room _ _ _ _ _ _ _ c.loop-turns.invariant
+next_marked-up-requires c = room_same (climb_room _ _ _ _ _ _ _ c.loop-turn.invariant
     c.requires) c.look_after-found.auto.words
 
 pub returns-then-up-eq0 : goal.returns-then-up-eq0
-returns-then-up-eq0 c = search behind_none
+returns-then-up-eq0 c = behind_none _ _ _ _ _ _ _ c.loop-turn.invariant (omega arith) _ _ c.look_after-found.ensures c.if-found-ne0.false _ c.next_marked-up.ensures c.if-up-eq0.true
 
 pub overflow_sub-up : goal.overflow_sub-up
 overflow_sub-up c = omega arith
 
 pub unmark-requires : goal.unmark-requires
-unmark-requires c = room_same (climb_room _ _ _ _ _ _ _ c.loop-turns.invariant
+unmark-requires c = room_same (climb_room _ _ _ _ _ _ _ c.loop-turn.invariant
     c.requires) c.look_after-found.auto.words
 
 pub overflow_sub-at : goal.overflow_sub-at
 overflow_sub-at c = omega arith
 
-pub loop-turns-smaller : goal.loop-turns-smaller
-loop-turns-smaller c = omega arith
-
-pub loop-turns-preserved : goal.loop-turns-preserved
-loop-turns-preserved c = search behind_next
+pub loop-turn-preserved : goal.loop-turn-preserved
+loop-turn-preserved c = behind_next _ _ _ _ _ _ _ c.loop-turn.invariant (omega arith) _ _ c.look_after-found.ensures c.if-found-ne0.false _ c.next_marked-up.ensures
+    _ c.if-up-eq0.false c.unmark.ensures c.look_after-found.auto.words c.unmark.auto.words _ (omega arith)
 
 pub returns : goal.returns
-returns c = search climb_last
+returns c = climb_last _ _ _ _ _ _ _ c.loop-turn.invariant (omega arith)

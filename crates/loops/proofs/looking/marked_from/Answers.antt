@@ -11,12 +11,6 @@ overflow_add-result c = omega arith
 pub returns-then-is_marked : goal.returns-then-is_marked
 returns-then-is_marked c = search seek_found
 
-pub overflow_add-k : goal.overflow_add-k
-overflow_add-k c = omega arith
-
-pub loop-k-smaller : goal.loop-k-smaller
-loop-k-smaller c = omega arith
-
 pub loop-k-preserved : goal.loop-k-preserved
 loop-k-preserved c = search seek_next
 

@@ -9,12 +9,6 @@ loop-k-init c = turns_first _ 0 _ _ (omega arith)
 pub clear_mark-requires : goal.clear_mark-requires
 clear_mark-requires c = search still_room
 
-pub overflow_add-k : goal.overflow_add-k
-overflow_add-k c = omega arith
-
-pub loop-k-smaller : goal.loop-k-smaller
-loop-k-smaller c = omega arith
-
 pub loop-k-preserved : goal.loop-k-preserved
 loop-k-preserved c = search unmark_more
 

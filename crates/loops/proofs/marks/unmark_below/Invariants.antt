@@ -1,10 +1,6 @@
-use Rattle.std.proofs.Common.{◌-◌}
 use Rattle.stores.proofs.Turns.{Turns}
 use Rattle.machine.specs.Loops.{unmark_from}
 use Rattle.loops.proofs.marks.unmark_below.Given as goal
 
 abbrev pub invariant-loop-k : goal.invariant-loop-k
 invariant-loop-k l = Turns (unmark_from l.grants) 0 l.end l.initial.words l.words l.k
-
-abbrev pub decreases-loop-k : goal.decreases-loop-k
-decreases-loop-k l = l.end - l.k

@@ -1,4 +1,4 @@
-use Rattle.operators.proofs.EqualityLaws.{apart, integers, strings, truths, nothings, shapes, uncompared, pairs_stop, pairs_settled}
+use Rattle.operators.proofs.EqualityLaws.{apart, integers, strings, truths, nothings, shapes, uncompared}
 use Rattle.operators.proofs.equality.equality.Goals as goal
 
 pub returns-then-k-l : goal.returns-then-k-l
@@ -16,11 +16,8 @@ returns-in-3 c = search truths
 pub returns-in-4 : goal.returns-in-4
 returns-in-4 c = search nothings
 
-pub returns-then-number-gt1 : goal.returns-then-number-gt1
-returns-then-number-gt1 c = search (shapes, pairs_stop)
-
-pub returns-else-number-gt1 : goal.returns-else-number-gt1
-returns-else-number-gt1 c = search (shapes, pairs_settled)
+pub returns-in-6 : goal.returns-in-6
+returns-in-6 c = search shapes
 
 pub returns-in_default : goal.returns-in_default
 returns-in_default c = search uncompared

@@ -1,9 +1,11 @@
-use Rattle.std.proofs.Common.{refl}
-use Rattle.scene.proofs.MeasureLaws.{scene_measured, room_cleared}
+use Rattle.machine.specs.Show.{show_scene}
+use Rattle.machine.proofs.Acts.{goes, stored, loading}
+use Rattle.scene.proofs.MeasureLaws.{room_cleared}
 use Rattle.scene.proofs.measuring.measure_scene.Goals as goal
 
-pub measure_variables-r-requires : goal.measure_variables-r-requires
-measure_variables-r-requires c = room_cleared _ c.requires
+pub measure_variables-requires : goal.measure_variables-requires
+measure_variables-requires c = room_cleared _ c.requires
 
 pub returns : goal.returns
-returns c = scene_measured _ _ _ _ _ _ _ refl c.measure_variables-r.ensures
+unfolding show_scene
+returns c = goes _ (stored _ _) (loading _ _ (loading _ _ c.measure_variables.ensures))

@@ -1,29 +1,28 @@
-use Rattle.std.proofs.Common.{arith}
-use Rattle.scene.proofs.MeasureLaws.{measures_first, measures_room, measures_long, measures_more, measures_stop, measures_all}
+use native.Mathlib.Omega.{arith}
+use Rattle.machine.specs.Show.{show_from}
+use Rattle.machine.proofs.Acts.{goes, stops, holding, given}
+use Rattle.walks.proofs.Runs.{runs_first, runs_room, runs_long, runs_turn, runs_next, runs_last}
 use Rattle.scene.proofs.measuring.measure_variables.Goals as goal
 
 pub loop-k-init : goal.loop-k-init
-loop-k-init c = measures_first _ _ _ _ _ _ (omega arith)
+loop-k-init c = runs_first _ _ (omega arith)
 
 pub holding_of-w-requires : goal.holding_of-w-requires
-holding_of-w-requires c = measures_long _ _ _ _ _ _ _ _ c.loop-k.invariant c.requires
+holding_of-w-requires c = search runs_long
 
-pub measure_in-r-requires : goal.measure_in-r-requires
-measure_in-r-requires c = measures_room _ _ _ _ _ _ _ _ c.loop-k.invariant c.requires
+pub measure_in-requires : goal.measure_in-requires
+measure_in-requires c = search runs_room
 
-pub returns-then-r-ne0 : goal.returns-then-r-ne0
-returns-then-r-ne0 c = measures_stop _ _ _ _ _ _ _ _ c.loop-k.invariant _ _ _ c.loop-k-test.true c.holding_of-w.ensures
-    c.measure_in-r.ensures c.frame-f.ensures
-    c.declared_count-n.ensures c.if-r-ne0.true
-
-pub overflow_add-k : goal.overflow_add-k
-overflow_add-k c = omega arith
-
-pub loop-k-smaller : goal.loop-k-smaller
-loop-k-smaller c = omega arith
+pub returns-in_err-measure_in : goal.returns-in_err-measure_in
+unfolding show_from
+returns-in_err-measure_in c = rw (← c.frame-f.ensures, ← c.declared_count-n.ensures) (runs_turn c.loop-k.invariant (omega arith)
+    (holding _ (stops _ (rw c.holding_of-w.ensures at c.in_err-measure_in.ensures) c.from_residual.ensures.1)))
 
 pub loop-k-preserved : goal.loop-k-preserved
-loop-k-preserved c = search measures_more
+unfolding show_from
+loop-k-preserved c = runs_next c.loop-k.invariant (omega arith) c.measure_in.auto.words
+    (λ s ws h. holding _ (goes _ (rw c.holding_of-w.ensures at c.in_ok-measure_in.ensures) h))
 
 pub returns : goal.returns
-returns c = measures_all _ _ _ _ _ _ _ _ c.loop-k.invariant c.frame-f.ensures c.declared_count-n.ensures c.loop-k-test.false
+unfolding show_from
+returns c = rw (← c.frame-f.ensures, ← c.declared_count-n.ensures) (runs_last c.loop-k.invariant (omega arith) (given tt))

@@ -1,9 +1,7 @@
-use Rattle.std.proofs.Common.{◌-◌}
-use Rattle.scene.proofs.MeasureLaws.{Measures}
+use Rattle.machine.specs.Show.{show_from}
+use Rattle.walks.proofs.Runs.{Runs}
+use Rattle.scene.specs.Measuring.{size_with}
 use Rattle.scene.proofs.measuring.measure_variables.Given as goal
 
 abbrev pub invariant-loop-k : goal.invariant-loop-k
-invariant-loop-k l = Measures l.program l.texts l.grants l.initial.words l.f l.n l.words l.k
-
-abbrev pub decreases-loop-k : goal.decreases-loop-k
-decreases-loop-k l = l.n - l.k
+invariant-loop-k l = Runs (show_from (size_with l.program l.texts) l.grants l.f) (show_from (size_with l.program l.texts) l.grants l.f 0 l.n) l.n l.initial.words l.words l.k
