@@ -1,16 +1,13 @@
 -- One law for each way through each function on statements, and through a call.
-use Prim.Native.Nat.{ℕ, suc, ◌+◌, ◌-◌, ◌^◌, ◌≤◌, ◌<◌}
+use Prim.Native.Nat.{ℕ, suc, ◌+◌, ◌-◌, ◌≤◌, ◌<◌}
 use mathlib.Core.Path.{◌≡◌, refl, sym, ◌∙◌}
 use mathlib.Core.Bool.{Bool, true, false, not}
-use mathlib.Core.List.{List, [], ◌∷◌}
-use mathlib.Core.Logic.{⊎_elim}
+use mathlib.Core.List.{List}
 use native.Mathlib.Omega.{arith}
 use lib.ListN.{get_or, length, take, drop}
 use borrow.Author.Rules.{part_to_end}
-use denote.Enum.Declared.{tag_of}
 use borrow.Author.Tests.{lt-ltb, le-ltb, ne_eqb, not-true, not-false}
 use Rattle.meaning.specs.Basics.{if◌then◌otherwise◌}
-use Rattle.machine.specs.contracts.Value as value
 use Rattle.machine.specs.Opcodes.{tag_in, size_in, place_in, extra_in, tag_declare, tag_update, tag_when, tag_while, tag_foreach, tag_return, tag_block}
 use Rattle.machine.specs.declared.Value.{Value}
 use Rattle.machine.specs.declared.Value.TheVariants.{Integer, Text, Boolean, Nothing, Table, Shape}
@@ -18,10 +15,11 @@ use Rattle.machine.specs.declared.Answer.{Answer}
 use Rattle.machine.specs.declared.Answer.TheVariants.{Good, Bad}
 use Rattle.machine.specs.Words.{kind_in, kind_shape, packed, unpacked}
 use Rattle.machine.specs.Layout.{fixed_words, steps_granted, Room}
-use Rattle.machine.specs.Layout as Layout
-use Rattle.machine.specs.Act.{Raw, raw, Out, stop, Act, go_on, ◌>>=◌, give, fail, count, shown, passed, Passes}
+use Rattle.machine.specs.Act.{Raw, raw, Out, stop, Act, go_on, ◌>>=◌, give, fail, count, shown, out_of, DoesIn, Passes}
 use Rattle.machine.specs.Tables.{store_entry}
-use Rattle.tables.specs.Asked.{Stores}
+use Rattle.std.specs.Prelude.{Result, Ok, Err}
+use Rattle.machine.specs.declared.Fault.{Fault}
+use Rattle.machine.specs.Fault.{number_of, place_of}
 use Rattle.machine.specs.Operate.{with_table}
 use Rattle.fastpath.specs.Fast.{Values}
 use Rattle.machine.specs.Evaluate.{Evaluator, Setting, setting}
@@ -31,14 +29,14 @@ use Rattle.machine.specs.declared.Outcome.{Outcome}
 use Rattle.machine.specs.declared.Outcome.TheVariants as outcome
 use Rattle.machine.specs.Effects.{shown_flow, shown_test, Flows, declaring, finishing, outcome_in, saying}
 use Rattle.machine.specs.Execute.{Executor, simple_at, update_value, update_in, update_at, test_of, continue, when_at, turning, looping, repeat_at, foreach_at, statements_from, counted_at, statement_by}
-use Rattle.machine.specs.Interpret.{expression_at, statement_at, body_at, invoke_at}
+use Rattle.machine.specs.Interpret.{expression_at, statement_at, body_at}
 use Rattle.stores.proofs.Acts.{after_pass, after_refusal}
 use Rattle.results.proofs.Acts.{goes_on, stops}
 use Rattle.effects.proofs.Acts.{flow_on, flow_returns, flow_stops, test_holds, test_fails, test_stops}
 use Rattle.interpreter.proofs.ExpressionLaws as laws
 use Rattle.interpreter.proofs.Fast.{Fast, plain, evaluates, unchanged}
 use Rattle.effects.proofs.Laws.{is_return}
-use Rattle.interpreter.specs.Asked.{Lent, Runs, Leaves, Body}
+use Rattle.interpreter.specs.Asked.{Lent, Runs, Leaves}
 use Rattle.interpreter.specs.Ended.{given, answer_of, Ended}
 
 -- ---- what is lent stays as long
@@ -164,14 +162,14 @@ module _ (program code g : List ℕ) (p : ℕ) (ts ws : List ℕ) (fuel y wy b w
       unfolding shown_flow
       value_stops n q f = sym (with_key ∙ stops _ h₃ f)
 
-      module _ (v₃ : Value) (k : ℕ) (f₃ : r₃ ≡ Good v₃) (e₃ : k ≡ packed v₃) (number : ℕ) (ws₄ : List ℕ) (d : Stores program g ts₃ ws₃ t key k number ws₄) where
-        pub update_refused : (number ≡ 0 → ⊥) → shown_flow (Stopped number p) ts₃ ws₄ ≡ update_at (expression_at fuel (setting program code g)) (setting program code g) y p (raw ts ws)
-        unfolding ◌>>=◌ go_on passed shown_flow
-        update_refused c = sym (with_key ∙ goes_on _ h₃ f₃ ∙ rw (← e₃, ← d.equal p, ne_eqb _ _ c))
+      module _ (v₃ : Value) (k : ℕ) (f₃ : r₃ ≡ Good v₃) (e₃ : k ≡ packed v₃) (s : Result (Unit {0}) Fault) (ws₄ : List ℕ) (d : DoesIn ts₃ ws₃ (store_entry program g t key k p) s ts₃ ws₄) where
+        pub update_refused : (x : Fault) (m q : ℕ) → s ≡ Err x → m ≡ number_of x → q ≡ place_of x → shown_flow (Stopped m q) ts₃ ws₄ ≡ update_at (expression_at fuel (setting program code g)) (setting program code g) y p (raw ts ws)
+        unfolding ◌>>=◌ go_on out_of shown_flow
+        update_refused x m q c i j = sym (with_key ∙ goes_on _ h₃ f₃ ∙ rw (← e₃, ← d.equal, c, i, j))
 
-        pub update_done : number ≡ 0 → shown_flow Onward ts₃ ws₄ ≡ update_at (expression_at fuel (setting program code g)) (setting program code g) y p (raw ts ws)
-        unfolding ◌>>=◌ go_on passed give shown_flow
-        update_done c = sym (with_key ∙ goes_on _ h₃ f₃ ∙ rw (← e₃, ← d.equal p, c))
+        pub update_done : {a : Unit {0}} → s ≡ Ok a → shown_flow Onward ts₃ ws₄ ≡ update_at (expression_at fuel (setting program code g)) (setting program code g) y p (raw ts ws)
+        unfolding ◌>>=◌ go_on out_of give shown_flow
+        update_done c = sym (with_key ∙ goes_on _ h₃ f₃ ∙ rw (← e₃, ← d.equal, c))
 
 -- ---- at a fuel
 module _ (program code g : List ℕ) (x : ℕ) (ts ws : List ℕ) (fuel : ℕ) where

@@ -398,19 +398,13 @@ fn update(
                     let key = values::pack(u);
                     match expression(program, code, grants, texts, words, fuel, y, p) {
                         Answer::Good(z) => {
-                            let number = tables::entries::store_entry(
-                                program,
-                                texts,
-                                words,
-                                grants,
-                                t,
-                                key,
-                                values::pack(z),
-                            );
-                            if number != 0 {
-                                return Flow::Stopped(number, p);
+                            let k = values::pack(z);
+                            match tables::entries::store_entry(
+                                program, texts, words, grants, p, t, key, k,
+                            ) {
+                                Ok(_) => Flow::Onward,
+                                Err(e) => Flow::Stopped(e.number(), e.place()),
                             }
-                            Flow::Onward
                         }
                         Answer::Bad(n, q) => Flow::Stopped(n, q),
                     }

@@ -1,7 +1,7 @@
 -- One law for each way through each function.
 use Prim.Native.Nat.{ℕ, ◌*◌, ◌-◌, ◌≤◌, ◌<◌}
 use mathlib.Core.Path.{◌≡◌, refl, sym, ◌∙◌}
-use mathlib.Core.Bool.{Bool, true, false, not, ◌&&◌}
+use mathlib.Core.Bool.{Bool, true, false, not}
 use mathlib.Core.List.{List}
 use lib.ListN.{get_or}
 use lib.IntN.{ℤ}
@@ -13,6 +13,9 @@ use borrow.Author.Tests.{lt-ltb, le-ltb, ne_eqb, not-true, not-false}
 use Rattle.meaning.specs.Basics.{if◌then◌otherwise◌}
 use Rattle.meaning.specs.Integer.{is_negative}
 use Rattle.machine.specs.Opcodes.{tag_in, number_in, tag_number, tag_string, tag_none, tag_truth, tag_entry, first_operator}
+use Rattle.std.specs.Prelude.{Result, Ok, Err}
+use Rattle.machine.specs.declared.Fault.{Fault}
+use Rattle.machine.specs.Fault.{number_of, place_of}
 use Rattle.machine.specs.declared.Value.{Value}
 use Rattle.machine.specs.declared.Value.TheVariants.{Integer, Text, Boolean, Nothing, Table}
 use Rattle.machine.specs.declared.Answer.{Answer}
@@ -21,7 +24,7 @@ use Rattle.machine.specs.Words.{kind_in, kind_integer, kind_table, unpacked}
 use Rattle.machine.specs.Words as Words
 use Rattle.values.proofs.Laws.{by_kind, unpacked_integer}
 use Rattle.machine.specs.Layout.{arguments_held}
-use Rattle.machine.specs.Act.{raw, Out, stop, go_on, ◌>>=◌, give, fail, refuse, load, new_table, shown, Answers, Passes, Gives}
+use Rattle.machine.specs.Act.{raw, stop, go_on, ◌>>=◌, give, fail, refuse, load, new_table, shown, out_of, DoesIn, Does, Answers, Passes, Gives}
 use Rattle.machine.specs.Stack.{push, drop_to}
 use Rattle.machine.specs.Variables.{variable}
 use Rattle.machine.specs.Tables.{read_entry}
@@ -29,7 +32,6 @@ use Rattle.machine.specs.Operate.{with_integer, operate}
 use Rattle.stores.proofs.Acts.{after_pass, after_refusal}
 use Rattle.machine.specs.Library.{call_library}
 use Rattle.machine.specs.Primaries.{leaf, sized, lacks_table, applied, push_word, called}
-use Rattle.results.proofs.Acts.{goes_on, stops}
 
 -- a signed local holds bits, and its value is read back from them
 abbrev held : ℤ → ℤ
@@ -86,14 +88,24 @@ module _ (tag a : ℕ) where
   pub needs_table : (k : ℕ) → tag < first_operator → k ≡ kind_in a → not (eqb k kind_table) ≡ lacks_table tag a
   needs_table k l e = rw (lt-ltb tag first_operator l, e)
 
-module _ (program g : List ℕ) (tag p a b : ℕ) (ts ws : List ℕ) (o : Out Value) where
-  pub is_read : (n : ℕ) → tag ≡ tag_entry → n ≡ Words.number_in a → o ≡ read_entry program g p n b (raw ts ws) → o ≡ applied program g tag p a b (raw ts ws)
-  unfolding applied if◌then◌otherwise◌
-  is_read n t e h = h ∙ rw (t, e)
+module _ (program g : List ℕ) (tag p a b : ℕ) (ts ws : List ℕ) {s : Result Value Fault} {ts' ws' : List ℕ} where
+  module _ (n : ℕ) (t : tag ≡ tag_entry) (e : n ≡ Words.number_in a) (h : DoesIn ts ws (read_entry program g p n b) s ts' ws') where
+    pub is_read : {v : Value} → s ≡ Ok v → shown (Good v) ts' ws' ≡ applied program g tag p a b (raw ts ws)
+    unfolding applied if◌then◌otherwise◌ out_of shown
+    is_read f = (rw f at h.equal) ∙ rw (t, e)
 
-  pub is_operator : (tag ≡ tag_entry → ⊥) → o ≡ operate program g tag p (unpacked a) (unpacked b) (raw ts ws) → o ≡ applied program g tag p a b (raw ts ws)
-  unfolding applied if◌then◌otherwise◌
-  is_operator n h = h ∙ rw (ne_eqb _ _ n)
+    pub no_read : {x : Fault} {m q : ℕ} → s ≡ Err x → m ≡ number_of x → q ≡ place_of x → shown (Bad m q) ts' ws' ≡ applied program g tag p a b (raw ts ws)
+    unfolding applied if◌then◌otherwise◌ out_of shown
+    no_read f i j = rw (i, j) ((rw f at h.equal) ∙ rw (t, e))
+
+  module _ (n : tag ≡ tag_entry → ⊥) (h : DoesIn ts ws (operate program g tag p (unpacked a) (unpacked b)) s ts' ws') where
+    pub is_operator : {v : Value} → s ≡ Ok v → shown (Good v) ts' ws' ≡ applied program g tag p a b (raw ts ws)
+    unfolding applied if◌then◌otherwise◌ out_of shown
+    is_operator f = (rw f at h.equal) ∙ rw (ne_eqb _ _ n)
+
+    pub no_operator : {x : Fault} {m q : ℕ} → s ≡ Err x → m ≡ number_of x → q ≡ place_of x → shown (Bad m q) ts' ws' ≡ applied program g tag p a b (raw ts ws)
+    unfolding applied if◌then◌otherwise◌ out_of shown
+    no_operator f i j = rw (i, j) ((rw f at h.equal) ∙ rw (ne_eqb _ _ n))
 
 -- ---- calls
 module _ (w p : ℕ) (ws : List ℕ) (ok : Bool) (ws₁ : List ℕ) (h : Passes ws 20 (push w) ok ws₁) where
@@ -105,11 +117,11 @@ module _ (w p : ℕ) (ws : List ℕ) (ok : Bool) (ws₁ : List ℕ) (h : Passes 
   unfolding push_word ◌>>=◌ shown give
   word_pushed t = record { equal = λ ts. sym (after_pass _ p ts (rw (not-false ok t) at h)) }
 
-module _ (g : List ℕ) (number p base h n : ℕ) (a : Answer) (ws ws₁ : List ℕ) (i : h ≡ get_or ws arguments_held 0) (j : n ≡ h - base) (e : Answers ws (call_library g number p base n) a ws₁) where
-  pub library_stops : (m q : ℕ) → a ≡ Bad m q → Answers ws (called g number p base) (Bad m q) ws₁
-  unfolding called ◌>>=◌ go_on load shown
-  library_stops m q f = record { equal = λ ts. sym (rw (← i, ← j) (stops _ (e.equal ts) f)) }
+module _ (g : List ℕ) (number p base h n : ℕ) {s : Result Value Fault} (ws ws₁ : List ℕ) (i : h ≡ get_or ws arguments_held 0) (j : n ≡ h - base) (e : Does ws (call_library g number p base n) s ws₁) where
+  pub library_stops : {x : Fault} {m q : ℕ} → s ≡ Err x → m ≡ number_of x → q ≡ place_of x → Answers ws (called g number p base) (Bad m q) ws₁
+  unfolding called ◌>>=◌ go_on load shown out_of
+  library_stops f k l = record { equal = λ ts. sym (rw (← i, ← j, ← e.equal ts, f, k, l)) }
 
-  pub library_called : (v : Value) (ws₂ : List ℕ) → a ≡ Good v → Gives ws₁ (drop_to base) tt ws₂ → Answers ws (called g number p base) (Good v) ws₂
-  unfolding called ◌>>=◌ go_on load give shown
-  library_called v ws₂ f d = record { equal = λ ts. sym (rw (← i, ← j) (goes_on _ (e.equal ts) f ∙ rw (← d.equal ts))) }
+  pub library_called : {v : Value} (ws₂ : List ℕ) → s ≡ Ok v → Gives ws₁ (drop_to base) tt ws₂ → Answers ws (called g number p base) (Good v) ws₂
+  unfolding called ◌>>=◌ go_on load give shown out_of
+  library_called ws₂ f d = record { equal = λ ts. sym (rw (← i, ← j, ← e.equal ts, f, ← d.equal ts)) }

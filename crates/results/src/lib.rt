@@ -90,19 +90,16 @@ pub fn apply(
         ≡ applied program.now grants.now tag p a b (raw texts.old words.old) }
 {
     if tag == tags::ENTRY {
-        let r = tables::entries::read_entry(
-            program,
-            texts,
-            words,
-            grants,
-            p,
-            values::number_of(a),
-            b,
-        );
-        return r;
+        let t = values::number_of(a);
+        return match tables::entries::read_entry(program, texts, words, grants, p, t, b) {
+            Ok(v) => Answer::Good(v),
+            Err(e) => Answer::Bad(e.number(), e.place()),
+        };
     }
-    let r = dispatch::operate(program, grants, texts, words, tag, p, a, b);
-    r
+    match dispatch::operate(program, grants, texts, words, tag, p, a, b) {
+        Ok(v) => Answer::Good(v),
+        Err(e) => Answer::Bad(e.number(), e.place()),
+    }
 }
 
 // ---- calls
@@ -124,10 +121,10 @@ pub fn called(words: &mut [u64], grants: &[u64; 5], number: u64, p: u64, base: u
 {
     let n = arithmetic::lowered_word(stores::arguments::arguments_held(words), base);
     match library::call_library(words, grants, number, p, base, n) {
-        Answer::Good(v) => {
+        Ok(v) => {
             stores::arguments::drop_to(words, base);
             Answer::Good(v)
         }
-        Answer::Bad(n, q) => Answer::Bad(n, q),
+        Err(e) => Answer::Bad(e.number(), e.place()),
     }
 }

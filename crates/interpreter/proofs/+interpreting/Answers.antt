@@ -1,4 +1,3 @@
-use Prim.Native.Nat.{◌+◌, ◌-◌, ◌*◌, ◌<◌}
 use native.Mathlib.Omega.{arith}
 use mathlib.Core.Path.{refl, ◌∙◌}
 use borrow.Author.Rules.{rules}
@@ -778,36 +777,34 @@ update-expression-requires-in-Table t c = (omega arith, still_lent _ _ _ _ _ (om
 pub update-expression-requires-in-Good-expression : goal.update-expression-requires-in-Good-expression
 update-expression-requires-in-Good-expression t c = (omega (arith), still_lent _ _ _ _ _ (omega arith) (omega arith) _ c.requires)
 
-pub update-store_entry-number-requires : goal.update-store_entry-number-requires
-update-store_entry-number-requires t c = still_room _ _ _ _ _ c.requires (omega arith)
+pub update-store_entry-requires : goal.update-store_entry-requires
+update-store_entry-requires t c = still_room _ _ _ _ _ c.requires (omega arith)
 
-pub update-shape_of-texts-then-number-ne0 : goal.update-shape_of-texts-then-number-ne0
-update-shape_of-texts-then-number-ne0 t c = search rules
+pub update-shape_of-texts-in-Ok : goal.update-shape_of-texts-in-Ok
+update-shape_of-texts-in-Ok t c = search rules
 
-pub update-shape_of-words-then-number-ne0 : goal.update-shape_of-words-then-number-ne0
-update-shape_of-words-then-number-ne0 t c = search rules
+pub update-shape_of-words-in-Ok : goal.update-shape_of-words-in-Ok
+update-shape_of-words-in-Ok t c = search rules
 
-pub update-returns-then-number-ne0 : goal.update-returns-then-number-ne0
-update-returns-then-number-ne0 t c = update_refused _ _ _ _ _ _ _ _ _ _ _ _ c.word_at.ensures c.before-b.ensures.0 c.word_at-2.ensures c.before-a.ensures.0 _ _ _ c.expression.ensures _ _ c.in-Good.is
+pub update-returns-in-Ok : goal.update-returns-in-Ok
+update-returns-in-Ok t c = update_done _ _ _ _ _ _ _ _ _ _ _ _ c.word_at.ensures c.before-b.ensures.0 c.word_at-2.ensures c.before-a.ensures.0 _ _ _ c.expression.ensures _ _ c.in-Good.is
     c.in-Table.is _ _ _
     c.expression-in-Table.ensures _ _ c.in-Good-expression.is c.pack-key.ensures _ _
     _ c.expression-in-Good-expression.ensures _ _
-    c.in-Good-expression-2.is c.pack.ensures _ _ c.store_entry-number.ensures
-    c.if-number-ne0.true
+    c.in-Good-expression-2.is c.pack-k.ensures _ _ c.store_entry.ensures c.in-Ok.is
 
-pub update-shape_of-texts-else-number-ne0 : goal.update-shape_of-texts-else-number-ne0
-update-shape_of-texts-else-number-ne0 t c = search rules
+pub update-shape_of-texts-in-Err : goal.update-shape_of-texts-in-Err
+update-shape_of-texts-in-Err t c = search rules
 
-pub update-shape_of-words-else-number-ne0 : goal.update-shape_of-words-else-number-ne0
-update-shape_of-words-else-number-ne0 t c = search rules
+pub update-shape_of-words-in-Err : goal.update-shape_of-words-in-Err
+update-shape_of-words-in-Err t c = search rules
 
-pub update-returns-else-number-ne0 : goal.update-returns-else-number-ne0
-update-returns-else-number-ne0 t c = update_done _ _ _ _ _ _ _ _ _ _ _ _ c.word_at.ensures c.before-b.ensures.0 c.word_at-2.ensures c.before-a.ensures.0 _ _ _ c.expression.ensures _ _ c.in-Good.is
+pub update-returns-in-Err : goal.update-returns-in-Err
+update-returns-in-Err t c = update_refused _ _ _ _ _ _ _ _ _ _ _ _ c.word_at.ensures c.before-b.ensures.0 c.word_at-2.ensures c.before-a.ensures.0 _ _ _ c.expression.ensures _ _ c.in-Good.is
     c.in-Table.is _ _ _
     c.expression-in-Table.ensures _ _ c.in-Good-expression.is c.pack-key.ensures _ _
     _ c.expression-in-Good-expression.ensures _ _
-    c.in-Good-expression-2.is c.pack.ensures _ _ c.store_entry-number.ensures
-    c.if-number-ne0.false
+    c.in-Good-expression-2.is c.pack-k.ensures _ _ c.store_entry.ensures _ _ _ c.in-Err.is c.number.ensures c.place.ensures
 
 pub update-shape_of-texts-in-Bad-expression-2 : goal.update-shape_of-texts-in-Bad-expression-2
 update-shape_of-texts-in-Bad-expression-2 t c = search rules

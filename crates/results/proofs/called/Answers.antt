@@ -1,8 +1,8 @@
 use Rattle.results.proofs.Laws.{library_called, library_stops}
 use Rattle.results.proofs.called.Goals as goal
 
-pub returns-in-Good : goal.returns-in-Good
-returns-in-Good c = search library_called
+pub returns-in-Ok : goal.returns-in-Ok
+returns-in-Ok c = search library_called
 
-pub returns-in-Bad : goal.returns-in-Bad
-returns-in-Bad c = search library_stops
+pub returns-in-Err : goal.returns-in-Err
+returns-in-Err c = search library_stops
