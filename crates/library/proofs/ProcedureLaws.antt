@@ -1,6 +1,6 @@
 -- Library procedures.
 use Prim.Native.Nat.{ℕ, ◌+◌, ◌^◌, ◌≤◌, ◌<◌}
-use mathlib.Core.Path.{◌≡◌, ◌∙◌, refl, ap, sym}
+use mathlib.Core.Path.{◌≡◌, ◌∙◌, refl, sym}
 use mathlib.Core.Bool.{Bool, true, false, not, ◌&&◌, cond}
 use mathlib.Core.List.{List}
 use native.Mathlib.Omega.{arith}
@@ -19,7 +19,7 @@ use Rattle.machine.specs.declared.Fault.TheVariants.{Misuse}
 use Rattle.machine.proofs.Acts.{goes, taken}
 use Rattle.machine.specs.Words.{kind_in, number_in, handle_in, unpacked}
 use Rattle.machine.specs.declared.Figure.{Figure}
-use Rattle.machine.specs.Act.{Raw, raw, Out, done, stop, Act, go_on, ◌>>=◌, give, fail, refuse, held, out_of, passed, Does}
+use Rattle.machine.specs.Act.{Raw, raw, done, stop, Act, go_on, ◌>>=◌, give, fail, refuse, held, out_of, Does}
 use Rattle.machine.specs.Stack.{argument_at}
 use Rattle.machine.specs.Layout.{argument_place}
 use Rattle.machine.specs.Shapes.{is_group_at, figure_at, new_shape}
@@ -211,16 +211,16 @@ module _ (g ws : List ℕ) (p base n : ℕ) where
     unfolding out_of
     destroy_kind h = rw k (record { equal = λ ts. sym (destroyed_by ts ∙ rw (← e, not-true b h)) })
 
-    pub destroy_by : not b ≡ false → {i : ℕ} {s : Result Value Fault} {ws' : List ℕ} → i ≡ shape_at ws base 0 → Does ws (destroy_all g p i >>= λ _. give Nothing) s ws' → Does ws (destroyed g p base n) s ws'
-    destroy_by h q a = rw k (record { equal = λ ts. a.equal ts ∙ sym (destroyed_by ts ∙ rw (← e, not-false b h, ← q)) })
+    pub destroys : b ≡ true → {i : ℕ} {r : Result Value Fault} {ws' : List ℕ} → i ≡ shape_at ws base 0 → Does ws (destroy_all g p i >>= λ _. give Nothing) r ws' → Does ws (destroyed g p base n) r ws'
+    destroys h q d = rw k (record { equal = λ ts. (rw q at d).equal ts ∙ sym (destroyed_by ts ∙ rw (← e, h)) })
 
   pub clear_count : (n ≡ 0 → ⊥) → Does ws (clearing g p n) (Err (Misuse p)) ws
   unfolding clearing ◌>>=◌ go_on refuse fail out_of
   clear_count h = record { equal = λ ts. rw (ne_eqb _ _ h) }
 
-  pub clear_by : n ≡ 0 → {s : Result Value Fault} {ws' : List ℕ} → Does ws (clear_scene g p >>= λ _. give Nothing) s ws' → Does ws (clearing g p n) s ws'
+  pub clears : n ≡ 0 → {r : Result Value Fault} {ws' : List ℕ} → Does ws (clear_scene g p >>= λ _. give Nothing) r ws' → Does ws (clearing g p n) r ws'
   unfolding clearing ◌>>=◌ go_on refuse give
-  clear_by k a = rw k (record { equal = a.equal })
+  clears k d = rw k (record { equal = d.equal })
 
   pub group_made : {r : Result Value Fault} {at : ℕ} {ws' : List ℕ} → Does ws (all_shapes p base n) (Ok tt) ws → at ≡ argument_place (base + 0) → Does ws (grouping g p 1 8 at n) r ws'
       → Does ws (grouped g p base n) r ws'

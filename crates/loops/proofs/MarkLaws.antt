@@ -211,15 +211,17 @@ module _ (g : List ℕ) (end k : ℕ) (ws₀ : List ℕ) where
       unfolding goes_on give if◌then◌otherwise◌
       behind_found z = record { equal = λ ts. sym (turn_by ts ∙ rw (ne_eqb found 0 z)) }
 
-      module _ (z : found ≡ 0) (up : ℕ) (u : up ≡ marked_from g ws₁ (at + 1) (end - at - 1)) where
-        pub behind_none : up ≡ 0 → Gives ws₀ (look_behind end g end k) 0 ws₁
+      module _ (z : found ≡ 0) where
+        pub behind_none : 0 ≡ marked_from g ws₁ (at + 1) (end - at - 1) → Gives ws₀ (look_behind end g end k) 0 ws₁
         unfolding goes_on give if◌then◌otherwise◌
-        behind_none y = record { equal = λ ts. sym (turn_by ts ∙ rw (z, ← u, y)) }
+        behind_none u = record { equal = λ ts. sym (turn_by ts ∙ rw (z, ← u)) }
 
-        pub behind_next : (ws₂ : List ℕ) → (up ≡ 0 → ⊥) → Gives ws₁ (unmark g (up - 1)) tt ws₂ → length ws₁ ≡ length ws → length ws₂ ≡ length ws₁
-            → (fewer : ℕ) → turns - 1 ≡ fewer → Climbs g end k ws₀ ws₂ (up - 1) fewer
+        pub behind_next : (up : ℕ) → up + 1 ≡ marked_from g ws₁ (at + 1) (end - at - 1) → (ws₂ : List ℕ) → Gives ws₁ (unmark g up) tt ws₂ → length ws₁ ≡ length ws → length ws₂ ≡ length ws₁
+            → (fewer : ℕ) → turns - 1 ≡ fewer → Climbs g end k ws₀ ws₂ up fewer
         unfolding goes_on ◌>>=◌ go_on if◌then◌otherwise◌
-        behind_next ws₂ y m l₁ l₂ fewer f = rw (← f) record {
-          rest = λ ts. turn_by ts ∙ rw (z, ← u, ne_eqb up 0 y) (after_gift (λ _. look_behind (turns - 1) g end (up - 1)) ts m);
-          long = l₂ ∙ l₁ ∙ a.long;
-        }
+        behind_next up u ws₂ m l₁ l₂ fewer f =
+            let same : up + 1 - 1 ≡ up = omega arith in
+            rw (← f) record {
+              rest = λ ts. turn_by ts ∙ rw (z, ← u, ne_eqb (up + 1) 0 (λ x. omega arith), same) (after_gift (λ _. look_behind (turns - 1) g end up) ts m);
+              long = l₂ ∙ l₁ ∙ a.long;
+            }

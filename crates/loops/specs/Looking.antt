@@ -6,7 +6,7 @@ use Rattle.machine.specs.Act.{raw, Out, done, Act, ◌>>=◌, ◌>>◌, give, lo
 use Rattle.machine.specs.Shapes.{is_group_at, destroyed_at}
 use Rattle.machine.specs.Groups.{component_at, followers_at, first_at, count_at, way_place}
 use Rattle.machine.specs.Loops.{hollow_at, hollow, marked_at, unmark, look_from, look_under}
-use Rattle.std.proofs.Common.{ControlFlow, Continue, Break}
+use Rattle.std.proofs.Common.{ControlFlow, Continue, Break, Option, None, Some}
 use Rattle.walks.specs.declared.Walk.{Walk}
 use Rattle.walks.specs.Walks.{slot_in, left_in, Walks, owed}
 
@@ -38,6 +38,11 @@ module _ (g : List ℕ) where
   unfoldable pub look_by : ControlFlow ℕ Walk → List ℕ → List ℕ → Out ℕ
   look_by (Continue w) ts ws = look_rest w.depth w.slot w.left (raw ts ws)
   look_by (Break found) ts ws = done found (raw ts ws)
+
+-- the slot behind one; 0 if there is none
+abbrev pub behind : Option ℕ → ℕ
+behind None = 0
+behind (Some k) = k + 1
 
 -- how many components are counted at a depth
 unfoldable pub within : List ℕ → ℕ → ℕ → ℕ

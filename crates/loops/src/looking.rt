@@ -4,7 +4,7 @@ ghost use Rattle.machine.specs.Layout.{Room, shapes_granted};
 ghost use Rattle.machine.specs.Act.{Gives};
 ghost use Rattle.machine.specs.Loops.{look_under, look_in, look_behind, marked_from};
 ghost use Rattle.walks.specs.Walks.{Under};
-ghost use Rattle.loops.specs.Looking.{within, look_after, Looked, Starts};
+ghost use Rattle.loops.specs.Looking.{behind, within, look_after, Looked, Starts};
 
 use crate::marks;
 use machine::granted;
@@ -44,6 +44,7 @@ fn look_once(words: &mut [u64], grants: &[u64; 5], w: Walk) -> ControlFlow<u32, 
 }
 
 // The slot behind that of the first figure among n components from slot k on and in groups among them; 0 if there is none.
+// No Option here: the specified search gives this number, and the interpreter hands it on.
 fn look(words: &mut [u64], grants: &[u64; 5], first: u32, count: u32) -> u32
     requires { Starts grants.now words.old first count }
     ensures { Gives words.old (look_under (shapes_granted grants.now) grants.now 0 first count) result words.new }
@@ -72,26 +73,26 @@ pub fn look_in(words: &mut [u64], grants: &[u64; 5], i: u32) -> u32
     look(words, grants, first, count)
 }
 
-// The first marked slot from k on below end: the one behind it; 0 if there is none.
-fn marked_from(words: &[u64], grants: &[u64; 5], from: u32, end: u32) -> u32
+// The first marked slot from a slot on below end.
+fn marked_from(words: &[u64], grants: &[u64; 5], from: u32, end: u32) -> Option<u32>
     requires { Room grants.now words.now }
-    ensures { result ≡ marked_from grants.now words.now from (end - from) }
+    ensures { behind result ≡ marked_from grants.now words.now from (end - from) }
 {
     for k in from..end {
         if marks::is_marked(words, grants, k) {
-            return k + 1;
+            return Some(k);
         }
     }
-    0
+    None
 }
 
 // The same behind slot k.
-fn next_marked(words: &[u64], grants: &[u64; 5], k: u32, end: u32) -> u32
+fn next_marked(words: &[u64], grants: &[u64; 5], k: u32, end: u32) -> Option<u32>
     requires { Room grants.now words.now }
-    ensures { result ≡ marked_from grants.now words.now (k + 1) (end - k - 1) }
+    ensures { behind result ≡ marked_from grants.now words.now (k + 1) (end - k - 1) }
 {
     if end <= k {
-        return 0;
+        return None;
     }
     marked_from(words, grants, k + 1, end)
 }
@@ -117,12 +118,13 @@ pub fn look_behind(words: &mut [u64], grants: &[u64; 5], end: u32, k: u32) -> u3
         if found != 0 {
             return found;
         }
-        let up = next_marked(words, grants, at, end);
-        if up == 0 {
-            return 0;
+        match next_marked(words, grants, at, end) {
+            None => return 0,
+            Some(up) => {
+                marks::unmark(words, grants, up);
+                at = up;
+            }
         }
-        marks::unmark(words, grants, up - 1);
-        at = up - 1;
     }
     0
 }

@@ -13,16 +13,14 @@ use Rattle.meaning.specs.Basics.{if◌then◌otherwise◌}
 use Rattle.meaning.specs.Integer.{is_zero}
 use Rattle.machine.specs.declared.Value.{Value}
 use Rattle.machine.specs.declared.Value.TheVariants.{Integer, Shape}
-use Rattle.machine.specs.declared.Answer.{Answer}
-use Rattle.machine.specs.declared.Answer.TheVariants.{Good, Bad}
 use Rattle.std.specs.Prelude.{Result, Ok, Err}
 use Rattle.std.specs.Result.{IsErrAnd}
 use Rattle.machine.specs.declared.Fault.{Fault}
-use Rattle.machine.specs.declared.Fault.TheVariants.{Misuse, DivisionByZero, Numbered}
+use Rattle.machine.specs.declared.Fault.TheVariants.{Misuse, DivisionByZero}
 use Rattle.machine.specs.Fault.{number_of, place_of}
 use Rattle.machine.proofs.Acts.{last}
 use Rattle.machine.specs.declared.Figure.{Figure}
-use Rattle.machine.specs.Act.{Raw, raw, Act, go_on, ◌>>=◌, give, fail, refuse, shown, Answers, out_of, Does}
+use Rattle.machine.specs.Act.{Raw, raw, Act, go_on, ◌>>=◌, give, fail, refuse, out_of, Does}
 use Rattle.machine.specs.Act as Act
 use Rattle.machine.specs.Shapes.{is_group_at, figure_at, new_shape}
 use Rattle.machine.specs.Groups.{remake, remake_group}

@@ -1,12 +1,8 @@
-use Rattle.std.proofs.Common.{arith}
 use Rattle.loops.proofs.MarkLaws.{seek_first, seek_last, seek_found, seek_next}
 use Rattle.loops.proofs.looking.marked_from.Goals as goal
 
 pub loop-k-init : goal.loop-k-init
 loop-k-init c = search seek_first
-
-pub overflow_add-result : goal.overflow_add-result
-overflow_add-result c = omega arith
 
 pub returns-then-is_marked : goal.returns-then-is_marked
 returns-then-is_marked c = search seek_found
