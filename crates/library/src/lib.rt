@@ -11,6 +11,7 @@ ghost use Rattle.library.specs.Asked.{only_figure};
 use arguments::given;
 use machine::{Fault, Figure, Value, kinds, procedures, shapes};
 
+// Each asks for its own count and kinds and makes its own figure: one function for the next four would take both as closures, and be no plainer.
 // Four integers make a figure of a kind.
 fn draw(
     words: &mut [u64],
