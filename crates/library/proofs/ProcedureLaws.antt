@@ -1,6 +1,6 @@
 -- Library procedures.
 use Prim.Native.Nat.{ℕ, ◌+◌, ◌^◌, ◌≤◌, ◌<◌}
-use mathlib.Core.Path.{◌≡◌, ◌∙◌, refl, sym}
+use mathlib.Core.Path.{◌≡◌, ◌∙◌, refl, ap, sym}
 use mathlib.Core.Bool.{Bool, true, false, not, ◌&&◌, cond}
 use mathlib.Core.List.{List}
 use native.Mathlib.Omega.{arith}
@@ -16,7 +16,7 @@ use Rattle.machine.specs.declared.Value.TheVariants.{Integer, Nothing}
 use Rattle.std.specs.Prelude.{Result, Ok, Err}
 use Rattle.machine.specs.declared.Fault.{Fault}
 use Rattle.machine.specs.declared.Fault.TheVariants.{Misuse}
-use Rattle.machine.proofs.Acts.{goes, taken}
+use Rattle.machine.proofs.Acts.{goes, taken, carried, given}
 use Rattle.machine.specs.Words.{kind_in, number_in, handle_in, unpacked}
 use Rattle.machine.specs.declared.Figure.{Figure}
 use Rattle.machine.specs.Act.{Raw, raw, done, stop, Act, go_on, ◌>>=◌, give, fail, refuse, held, out_of, Does}
@@ -33,6 +33,7 @@ use Rattle.operators.proofs.KindLaws.{integer_or, text_or, shape_or}
 use Rattle.machine.specs.Library.{with_figure}
 use Rattle.machine.specs.Arguments.{figure, connecting, text_on, all_usable}
 use Rattle.machine.specs.Library.{drawn, drawn_text, connected, labelled, coordinate, destroyed, clearing, all_shapes, grouped, perform, call_library}
+use Rattle.library.specs.Asked.{only_figure}
 use Rattle.arguments.specs.Given.{is_kind, are_kinds, four_integers, point_and_text, is_figure, two_figures, figure_and_text, integer_at, handle_at, shape_at, given_figure}
 use Rattle.arguments.specs.Given.{drawn_figure, text_figure, connecting_figure, label_figure}
 
@@ -177,24 +178,47 @@ module _ (ws g : List ℕ) (p base n : ℕ) where
   label_made {b} {f} {r} {ws'} k e h q a = rw k (made g ws (labelled g p base 2) p (figure_and_text ws base) b (label_figure ws base) e (λ ts. labelled_by g ts ws p base) r f ws' h q a)
 
 -- ---- a centre, a shape destroyed, the scene cleared, a group
+cond_then : {A B : Type 0} (c : Bool) (p : ℕ) (s : Raw) (x : A) (k : A → Act B) → cond c (k x s) (stop 20 p s) ≡ go_on (cond c (done x s) (stop 20 p s)) k
+unfolding go_on
+cond_then true p s x k = refl
+cond_then false p s x k = refl
+
+figure_then : {A : Type 0} (p : ℕ) (s : Raw) (a : ℕ) (k : Figure → Act A) → with_figure p (unpacked a) k s ≡ go_on (with_figure p (unpacked a) (λ x. give x) s) k
+unfolding give
+figure_then p s a k = figure_or p s a k ∙ cond_then (fig s.words a) p s (figure_at s.words (number_in a)) k ∙ ap (λ o. go_on o k) (sym (figure_or p s a (λ x. give x)))
+
 module _ (ws : List ℕ) (p base n : ℕ) where
+  pub no_only : (n ≡ 1 → ⊥) → Does ws (only_figure p base n) (Err (Misuse p)) ws
+  unfolding only_figure ◌>>=◌ go_on refuse fail out_of
+  no_only h = record { equal = λ ts. rw (ne_eqb _ _ h) }
+
+  only_by : (ts : List ℕ) → only_figure p base 1 (raw ts ws) ≡ cond (is_figure ws base 0) (done (given_figure ws base 0) (raw ts ws)) (stop 20 p (raw ts ws))
+  unfolding only_figure ◌>>=◌ go_on refuse give is_figure is_kind given_figure shape_at
+  only_by ts = rw (first_is base) (figure_or p (raw ts ws) (argument_at ws base) (λ x. give x))
+
+  module _ {b : Bool} (k : n ≡ 1) (e : b ≡ is_figure ws base 0) where
+    pub only_other : not b ≡ true → Does ws (only_figure p base n) (Err (Misuse p)) ws
+    unfolding out_of
+    only_other h = rw k (record { equal = λ ts. sym (only_by ts ∙ rw (← e, not-true b h)) })
+
+    pub only_given : {s : Figure} → not b ≡ false → s ≡ given_figure ws base 0 → Does ws (only_figure p base n) (Ok s) ws
+    unfolding out_of
+    only_given h q = rw (k, q) (record { equal = λ ts. sym (only_by ts ∙ rw (← e, not-false b h)) })
+
   module _ (f : Figure → ℤ) where
-    pub coordinate_count : (n ≡ 1 → ⊥) → Does ws (coordinate f p base n) (Err (Misuse p)) ws
-    unfolding coordinate ◌>>=◌ go_on refuse fail out_of
-    coordinate_count h = record { equal = λ ts. rw (ne_eqb _ _ h) }
+    coordinate_then : (ts : List ℕ) → coordinate f p base n (raw ts ws) ≡ (only_figure p base n >>= λ s. give (Integer (f s))) (raw ts ws)
+    unfolding coordinate only_figure ◌>>=◌ go_on refuse fail give
+    coordinate_then ts = go (eqb n 1) refl
+      where
+        go : (b : Bool) → eqb n 1 ≡ b → coordinate f p base n (raw ts ws) ≡ (only_figure p base n >>= λ s. give (Integer (f s))) (raw ts ws)
+        go true e = rw e (figure_then p (raw ts ws) (argument_at ws base) (λ s. give (Integer (f s))))
+        go false e = rw e
 
-    coordinate_by : (ts : List ℕ) → coordinate f p base 1 (raw ts ws) ≡ cond (is_figure ws base 0) (done (Integer (f (given_figure ws base 0))) (raw ts ws)) (stop 20 p (raw ts ws))
-    unfolding coordinate ◌>>=◌ go_on refuse give is_figure is_kind given_figure shape_at
-    coordinate_by ts = rw (first_is base) (figure_or p (raw ts ws) (argument_at ws base) _)
+    pub coordinate_of : {r : Result Value Fault} → Does ws (only_figure p base n >>= λ s. give (Integer (f s))) r ws → Does ws (coordinate f p base n) r ws
+    coordinate_of h = carried coordinate_then h
 
-    pub coordinate_kind : {b : Bool} → n ≡ 1 → b ≡ is_figure ws base 0 → not b ≡ true → Does ws (coordinate f p base n) (Err (Misuse p)) ws
-    unfolding out_of
-    coordinate_kind {b} k e h = rw k (record { equal = λ ts. sym (coordinate_by ts ∙ rw (← e, not-true b h)) })
-
-    pub coordinate_given : {b : Bool} {s : Figure} {m : ℤ} → n ≡ 1 → b ≡ is_figure ws base 0 → not b ≡ false → s ≡ given_figure ws base 0 → m ≡ f s → mag m < 2 ^ 31
-        → Does ws (coordinate f p base n) (Ok (Integer (held.held m))) ws
-    unfolding out_of
-    coordinate_given {b} k e h q m l = rw k (record { equal = λ ts. sym (coordinate_by ts ∙ rw (← e, not-false b h, back_to l m, q)) })
+pub coordinate_is : (ws : List ℕ) (f : Figure → ℤ) {s : Figure} {m : ℤ} → m ≡ f s → mag m < 2 ^ 31 → Does ws (give (Integer (f s))) (Ok (Integer (held.held m))) ws
+coordinate_is ws f q h = rw (back_to h q) (given _)
 
 module _ (g ws : List ℕ) (p base n : ℕ) where
   pub destroy_count : (n ≡ 1 → ⊥) → Does ws (destroyed g p base n) (Err (Misuse p)) ws

@@ -6,10 +6,12 @@ ghost use Rattle.machine.specs.Layout.{fixed_words, Room};
 ghost use Rattle.machine.specs.Act.{Does};
 ghost use Rattle.machine.specs.Library.{drawn, drawn_text, connected, labelled, coordinate, destroyed, clearing, grouped, perform, call_library};
 ghost use Rattle.machine.specs.Arguments.{centre_x, centre_y};
+ghost use Rattle.library.specs.Asked.{only_figure};
 
 use arguments::given;
-use machine::{Fault, Value, kinds, procedures, shapes};
+use machine::{Fault, Figure, Value, kinds, procedures, shapes};
 
+// Each asks for its own count and kinds and makes its own figure: one function for the next four would take both as closures, and be no plainer.
 // Four integers make a figure of a kind.
 fn draw(
     words: &mut [u64],
@@ -76,9 +78,10 @@ fn label(words: &mut [u64], grants: &[u64; 5], p: u64, base: u64, n: u64) -> Res
     stores::shapes::new_shape(words, grants, p, given::label_figure(words, base))
 }
 
-fn x_coordinate(words: &[u64], p: u64, base: u64, n: u64) -> Result<Value, Fault>
+// The only argument, which has to be a figure.
+fn only_figure(words: &[u64], p: u64, base: u64, n: u64) -> Result<Figure, Fault>
     requires { fixed_words ≤ length words.now }
-    ensures { Does words.now (coordinate centre_x p base n) result words.now }
+    ensures { Does words.now (only_figure p base n) result words.now }
 {
     if n != 1 {
         return Err(Fault::Misuse(p));
@@ -86,20 +89,23 @@ fn x_coordinate(words: &[u64], p: u64, base: u64, n: u64) -> Result<Value, Fault
     if !arguments::is_figure(words, base, 0) {
         return Err(Fault::Misuse(p));
     }
-    Ok(Value::Integer(given::centre_x(arguments::given_figure(words, base, 0))))
+    Ok(arguments::given_figure(words, base, 0))
+}
+
+fn x_coordinate(words: &[u64], p: u64, base: u64, n: u64) -> Result<Value, Fault>
+    requires { fixed_words ≤ length words.now }
+    ensures { Does words.now (coordinate centre_x p base n) result words.now }
+{
+    let f = only_figure(words, p, base, n)?;
+    Ok(Value::Integer(given::centre_x(f)))
 }
 
 fn y_coordinate(words: &[u64], p: u64, base: u64, n: u64) -> Result<Value, Fault>
     requires { fixed_words ≤ length words.now }
     ensures { Does words.now (coordinate centre_y p base n) result words.now }
 {
-    if n != 1 {
-        return Err(Fault::Misuse(p));
-    }
-    if !arguments::is_figure(words, base, 0) {
-        return Err(Fault::Misuse(p));
-    }
-    Ok(Value::Integer(given::centre_y(arguments::given_figure(words, base, 0))))
+    let f = only_figure(words, p, base, n)?;
+    Ok(Value::Integer(given::centre_y(f)))
 }
 
 fn destroy(words: &mut [u64], grants: &[u64; 5], p: u64, base: u64, n: u64) -> Result<Value, Fault>
