@@ -1,11 +1,5 @@
 use native.Mathlib.Omega.{arith}
 use Rattle.running.proofs.Ways.{way_malformed, way_parameters, few_tokens, way_main}
-use Rattle.running.proofs.run_read.Reads as reads
-use Rattle.running.proofs.run_read.Lts as lts
-use Rattle.code.proofs.parameters_of.Reads as parameters-of-reads
-use Rattle.numbering.proofs.number.Reads as number-reads
-use Rattle.reader.proofs.read.Reads as read-reads
-use Rattle.running.proofs.run_main.Reads as run-main-reads
 use Rattle.running.proofs.run_read.Goals as goal
 
 pub returns-then-parameters_of-ne2 : goal.returns-then-parameters_of-ne2
@@ -18,4 +12,4 @@ pub returns-in-Malformed : goal.returns-in-Malformed
 returns-in-Malformed c = search way_malformed
 
 pub returns-else-parameters_of-ne2 : goal.returns-else-parameters_of-ne2
-returns-else-parameters_of-ne2 c = way_main _ _ _ _ _ _ _ c.requires _ _ _ c.read.ensures.0 _ _ _ c.in-Formed.is _ c.parameters_of.ensures.0 _ c.read.ensures.1 c.if-parameters_of-ne2.false (omega arith) _ _ _ c.number-main.ensures c.ranges.width c.ranges.height _ _ _ c.run_main-r.ensures
+returns-else-parameters_of-ne2 c = way_main _ _ _ _ _ _ _ c.requires _ _ _ c.read.ensures.0 _ _ _ c.in-Formed.is _ c.parameters_of.ensures.0 _ c.read.ensures.1 c.if-parameters_of-ne2.false (omega arith) _ _ _ c.number-main.ensures c.ranges.width c.ranges.height _ _ _ c.run_main.ensures
