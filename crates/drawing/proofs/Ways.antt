@@ -35,13 +35,13 @@ module _ (program : List ℕ) (width height : ℤ) (g ts ws : List ℕ) (e : Res
 
 module _ (program : List ℕ) (width height : ℤ) (g out : List ℕ) (f : SFits w32 width) (f₂ : SFits w32 height) where
   pub lent_number : (ts ws : List ℕ) (e : Result (Unit {0}) Fault) → Ran program g (painting_run program (held width) (held height) g) e ts ws
-      → (f : Fault) → e ≡ Err f → (n p : ℕ) → n ≡ number_of f → p ≡ place_of f → (k : ℕ) → k ≡ get_or ws steps_used 0 → Drawn program width height g out (meant (Number n p k 0)) out
+      → (m : Fault) → e ≡ Err m → (n p : ℕ) → n ≡ number_of m → p ≡ place_of m → (k : ℕ) → k ≡ get_or ws steps_used 0 → Drawn program width height g out (meant (Number n p k 0)) out
   unfolding meant
-  lent_number ts ws e ran f q n p i j k h =
+  lent_number ts ws e ran m q n p i j k h =
       let z : Ran program g (painting_run program width height g) e ts ws = rw (to_z-of_z f, to_z-of_z f₂) at ran in
       record {
-        answered = rw (i, j, h) (sym (drawn_number program width height g out ts ws f (rw q at z)));
-        written = sym (out_untouched program width height g out ts ws f (rw q at z));
+        answered = rw (i, j, h) (sym (drawn_number program width height g out ts ws m (rw q at z)));
+        written = sym (out_untouched program width height g out ts ws m (rw q at z));
       }
 
   pub lent_drawn : (a : Declared.Answer) (after : List ℕ) → Drawn program (held width) (held height) g out (meant a) after → Drawn program width height g out (meant a) after
