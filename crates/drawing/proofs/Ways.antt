@@ -15,8 +15,9 @@ use Rattle.answers.specs.declared.Answer as Declared
 use Rattle.answers.specs.declared.Answer.TheVariants.{Number}
 use Rattle.answers.specs.Answers.{meant}
 use Rattle.machine.specs.Layout.{steps_used}
-use Rattle.prologue.specs.declared.Ending.{Ending}
-use Rattle.prologue.specs.declared.Ending.TheVariants.{Complete, Stopped}
+use Rattle.std.specs.Prelude.{Result, Ok, Err}
+use Rattle.machine.specs.declared.Fault.{Fault}
+use Rattle.machine.specs.Fault.{number_of, place_of}
 use Rattle.painting.specs.Running.{Ran, painting_run}
 use Rattle.lending.specs.Lending.{enough, Ready, called, Performed}
 use Rattle.lending.proofs.Admitted.{draws, performed_nothing, ready, performed, written}
@@ -28,19 +29,19 @@ abbrev held : ℤ → ℤ
 held z = to_z w32 (of_z w32 z)
 
 -- ---- `draw_lent`
-module _ (program : List ℕ) (width height : ℤ) (g ts ws : List ℕ) (e : Ending) (ran : Ran program g (painting_run program width height g) e ts ws) where
-  pub lent_scene : e ≡ Complete → Scene program width height g ws ts
+module _ (program : List ℕ) (width height : ℤ) (g ts ws : List ℕ) (e : Result (Unit {0}) Fault) (ran : Ran program g (painting_run program width height g) e ts ws) where
+  pub lent_scene : e ≡ Ok tt → Scene program width height g ws ts
   lent_scene q = record { ran = rw q at ran }
 
 module _ (program : List ℕ) (width height : ℤ) (g out : List ℕ) (f : SFits w32 width) (f₂ : SFits w32 height) where
-  pub lent_number : (ts ws : List ℕ) (e : Ending) → Ran program g (painting_run program (held width) (held height) g) e ts ws
-      → (n p : ℕ) → e ≡ Stopped n p → (k : ℕ) → k ≡ get_or ws steps_used 0 → Drawn program width height g out (meant (Number n p k 0)) out
+  pub lent_number : (ts ws : List ℕ) (e : Result (Unit {0}) Fault) → Ran program g (painting_run program (held width) (held height) g) e ts ws
+      → (m : Fault) → e ≡ Err m → (n p : ℕ) → n ≡ number_of m → p ≡ place_of m → (k : ℕ) → k ≡ get_or ws steps_used 0 → Drawn program width height g out (meant (Number n p k 0)) out
   unfolding meant
-  lent_number ts ws e ran n p q k h =
+  lent_number ts ws e ran m q n p i j k h =
       let z : Ran program g (painting_run program width height g) e ts ws = rw (to_z-of_z f, to_z-of_z f₂) at ran in
       record {
-        answered = rw h (sym (drawn_number program width height g out ts ws n p (rw q at z)));
-        written = sym (out_untouched program width height g out ts ws n p (rw q at z));
+        answered = rw (i, j, h) (sym (drawn_number program width height g out ts ws m (rw q at z)));
+        written = sym (out_untouched program width height g out ts ws m (rw q at z));
       }
 
   pub lent_drawn : (a : Declared.Answer) (after : List ℕ) → Drawn program (held width) (held height) g out (meant a) after → Drawn program width height g out (meant a) after

@@ -9,7 +9,6 @@ ghost use Rattle.lending.specs.Lending.{Ready, called, Performed};
 ghost use Rattle.rendering.specs.Rendering.{Drawn};
 
 use answers::Answer;
-use prologue::Ending;
 
 // Runs the program and draws its picture into the front of `out`; after a number `out` is as it was. The grants are steps, shapes, entries, text
 // bytes and calls; `tokens` must hold 8,193 words, `code` 16,384, `words` 262,416 + 5 × shapes + (5 + calls) × entries, and `texts` as many bytes as
@@ -57,10 +56,7 @@ fn draw_lent(
     ensures { Drawn program.now width height grants.now out.old (meant result) out.new }
 {
     match running::run(program, width, height, grants, tokens, code, words, texts) {
-        Ending::Complete => {
-            let r = rendering::draw_scene(program, width, height, grants, words, texts, out);
-            r
-        }
-        Ending::Stopped(n, p) => Answer::Number(n, p, stores::words::word_at(words, 0), 0),
+        Ok(()) => rendering::draw_scene(program, width, height, grants, words, texts, out),
+        Err(e) => Answer::Number(e.number(), e.place(), stores::words::word_at(words, 0), 0),
     }
 }

@@ -1,5 +1,5 @@
 mod Going
-mod ExpressionLaws
+pub mod ExpressionLaws
 mod CallLaws
 mod Fast
 mod StatementLaws

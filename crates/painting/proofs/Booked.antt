@@ -24,8 +24,10 @@ use Rattle.machine.specs.Layout.{steps_used, steps_granted}
 use Rattle.machine.specs.Act.{raw, done, stop}
 use Rattle.simulation.specs.Follows.{Grants, Together, gives, lacks, fails}
 use Rattle.scene.specs.Scene.{scene_in}
-use Rattle.prologue.specs.declared.Ending.TheVariants.{Complete, Stopped}
-use Rattle.prologue.specs.Prologue.{shown_ending}
+use Rattle.std.specs.Prelude.{Ok, Err}
+use Rattle.machine.specs.declared.Fault.{Fault}
+use Rattle.machine.specs.Fault.{number_of, place_of}
+use Rattle.machine.specs.Act.{out_of}
 use Rattle.painting.specs.Running.{Painted, Ran, painting_run}
 use Rattle.lending.specs.Lending.{grants_of}
 use Rattle.painting.proofs.Leaving.{fit_spent}
@@ -91,19 +93,19 @@ module _ (program : List ℕ) (width height : ℤ) (g : List ℕ) (out : List �
   untouched_go n p k us unfinished (lacks t total' f x y w) = rw f
   untouched_go n p k us (error m q) (fails total' f w) = rw f
 
-  module _ (n p : ℕ) (ran : Ran program g painted (Stopped n p) ts ws) where
-    together : Together amounts nothing_yet (Painted program g) (stop n p (raw ts ws)) painted.takings painted.end
-    unfolding shown_ending
+  module _ (f : Fault) (ran : Ran program g painted (Err f) ts ws) where
+    together : Together amounts nothing_yet (Painted program g) (stop (number_of f) (place_of f) (raw ts ws)) painted.takings painted.end
+    unfolding out_of
     together = (ran.follows amounts (grants_are g out)).is
 
-    pub drawn_number : booked amounts (specified drawing program width height (suc (steps_granted g))) ≡ number n p (get_or ws steps_used 0) 0
+    pub drawn_number : booked amounts (specified drawing program width height (suc (steps_granted g))) ≡ number (number_of f) (place_of f) (get_or ws steps_used 0) 0
     unfolding specified performing Run.◌>>=◌
-    drawn_number = stopped_go n p _ painted.takings painted.end plain together
+    drawn_number = stopped_go _ _ _ painted.takings painted.end plain together
 
     pub out_untouched : out_after_end drawing (book amounts nothing_yet (specified drawing program width height (suc (steps_granted g))).takings)
         (specified drawing program width height (suc (steps_granted g))).end out ≡ out
     unfolding specified performing Run.◌>>=◌
-    out_untouched = untouched_go n p _ painted.takings painted.end together
+    out_untouched = untouched_go _ _ _ painted.takings painted.end together
 
   -- ---- a picture
   -- how the painting ended
@@ -131,9 +133,9 @@ module _ (program : List ℕ) (width height : ℤ) (g : List ℕ) (out : List �
     holds = w;
   }
 
-  module _ (ran : Ran program g painted Complete ts ws) where
+  module _ (ran : Ran program g painted (Ok tt) ts ws) where
     pub painted_ended : Ended
-    unfolding shown_ending
+    unfolding out_of
     painted_ended = ended_go painted.takings painted.end plain refl refl (ran.follows amounts (grants_are g out)).is
 
     abbrev bytes : List ℕ

@@ -33,7 +33,7 @@ use Rattle.numbering.proofs.Numbered.{Numbered}
 use Rattle.numbering.proofs.Whole.{number_whole}
 use Rattle.machine.specs.Opcodes.{table_place, start_in, parameters_in, body_in, frame_in}
 use Rattle.machine.specs.Layout.{steps_used, steps_granted, Lent}
-use Rattle.machine.specs.Act.{raw}
+use Rattle.machine.specs.Act.{raw, out_of}
 use Rattle.machine.specs.Act as Act
 use Rattle.machine.specs.Evaluate.{Setting, setting}
 use Rattle.machine.specs.Interpret.{body_at}
@@ -44,10 +44,12 @@ use Rattle.simulation.proofs.Binding.{bind}
 use Rattle.simulation.proofs.Chaining.{regroup}
 use Rattle.simulation.proofs.Results.{failed}
 use Rattle.simulation.proofs.Body.{main_takes, main_brief, main_twice, main_frame, main_few, main_names, main_numbers, body_follows}
-use Rattle.prologue.specs.declared.Ending.{Ending}
-use Rattle.prologue.specs.declared.Ending.TheVariants.{Stopped}
+use Rattle.std.specs.Prelude.{Result, Err}
+use Rattle.machine.specs.declared.Fault.{Fault}
+use Rattle.machine.specs.declared.Fault.TheVariants.{Misuse, NoSheet, TooLong}
+use Rattle.machine.specs.declared.Fault.TheVariants as faults
 use Rattle.painting.specs.Specified.{paint_read}
-use Rattle.prologue.specs.Prologue.{main_begins, main_ends, shown_ending, Blank}
+use Rattle.prologue.specs.Prologue.{main_begins, main_ends, Blank}
 use Rattle.painting.specs.Running.{main_fuel, body_run, main_run, Painted, Ran, painting_run, reading_run}
 use Rattle.painting.proofs.Entering.{Entered, enters_not, enters}
 use Rattle.painting.proofs.Leaving.{main_ends_lem}
@@ -130,12 +132,12 @@ module _ (program code g texts words : List ℕ) (short : length program ≤ 327
   -- ---- a number
   module _ (steps : get_or words steps_used 0 ≡ 0) where
     pub read_malformed : (r : Malformed) → seen (Err r) code ≡ coded (tokens_in program) (reading program)
-        → Ran program g (reading_run program width height g) (Stopped r.number r.place) texts words
-    unfolding seen coded coded_apart paint_read shown_ending understood named_apart Run.◌>>=◌ Run.go_on Run.fail
+        → Ran program g (reading_run program width height g) (Err (faults.Numbered r.number r.place)) texts words
+    unfolding seen coded coded_apart paint_read out_of understood named_apart Run.◌>>=◌ Run.go_on Run.fail
     read_malformed r left = go (reading program) left
       where
         by_name : (m : Tree.Program) (n : Option ℕ) → doubled [] m.procedures ≡ n → refused r.number r.place ≡ coded_apart (tokens_in program) m.procedures n
-            → Ran program g (paint_read (well_formed m) width height (suc (steps_granted g)) empty) (Stopped r.number r.place) texts words
+            → Ran program g (paint_read (well_formed m) width height (suc (steps_granted g)) empty) (Err (faults.Numbered r.number r.place)) texts words
         by_name m none d h = formed_refused (sym h)
         by_name m (some p) d h =
             let x : r.number ≡ 60 = cc in
@@ -143,7 +145,7 @@ module _ (program code g texts words : List ℕ) (short : length program ≤ 327
             record { follows = λ granted gr. rw (x, y, d) (failed 60 p (raw texts words) steps) }
 
         go : (m : Reading) → seen (Err r) code ≡ coded (tokens_in program) m
-            → Ran program g (paint_read m width height (suc (steps_granted g)) empty) (Stopped r.number r.place) texts words
+            → Ran program g (paint_read m width height (suc (steps_granted g)) empty) (Err (faults.Numbered r.number r.place)) texts words
         go (well_formed m) h = by_name m (doubled [] m.procedures) refl h
         go (malformed n p) h =
             let x : r.number ≡ n = cc in
@@ -152,21 +154,21 @@ module _ (program code g texts words : List ℕ) (short : length program ≤ 327
 
   -- ---- a program
   module _ (r : Program) (left : seen (Ok r) code ≡ coded (tokens_in program) (reading program)) where
-    abbrev Shows : Ending → List ℕ → List ℕ → Type 0
+    abbrev Shows : Result (Unit {0}) Fault → List ℕ → List ℕ → Type 0
     Shows e ts ws = (m : Tree.Program) → Whole program code r.main m → Ran program g (paint_read (well_formed m) width height (suc (steps_granted g)) empty) e ts ws
 
-    by_program : (e : Ending) (ts ws : List ℕ) → Shows e ts ws → Ran program g (reading_run program width height g) e ts ws
+    by_program : (e : Result (Unit {0}) Fault) (ts ws : List ℕ) → Shows e ts ws → Ran program g (reading_run program width height g) e ts ws
     by_program e ts ws f =
         let w = whole program code r left in
         rw w.1.read.is (f w.0 w.1)
 
-    pub read_parameters : get_or words steps_used 0 ≡ 0 → (parameters_in r.main ≡ 2 → ⊥) → Ran program g (reading_run program width height g) (Stopped 20 0) texts words
-    unfolding paint_read shown_ending understood named_apart entering Run.◌>>=◌ Run.go_on Run.fail Run.give
-    read_parameters steps l = by_program (Stopped 20 0) texts words (λ m s. by_names m s m.main.parameters refl
+    pub read_parameters : get_or words steps_used 0 ≡ 0 → (parameters_in r.main ≡ 2 → ⊥) → Ran program g (reading_run program width height g) (Err (Misuse 0)) texts words
+    unfolding paint_read out_of understood named_apart entering Run.◌>>=◌ Run.go_on Run.fail Run.give
+    read_parameters steps l = by_program (Err (Misuse 0)) texts words (λ m s. by_names m s m.main.parameters refl
         (λ q. l (main_parameters program code r.main m short s ∙ q)))
       where
         by_names : (m : Tree.Program) → Whole program code r.main m → (xs : List (List ℕ)) → m.main.parameters ≡ xs → (length m.main.parameters ≡ 2 → ⊥)
-            → Ran program g (paint_read (well_formed m) width height (suc (steps_granted g)) empty) (Stopped 20 0) texts words
+            → Ran program g (paint_read (well_formed m) width height (suc (steps_granted g)) empty) (Err (Misuse 0)) texts words
         by_names m s [] q l = record { follows = λ granted gr. rw (s.different, q) (failed 20 0 (raw texts words) steps) }
         by_names m s (x ∷ []) q l = record { follows = λ granted gr. rw (s.different, q) (failed 20 0 (raw texts words) steps) }
         by_names m s (x ∷ y ∷ []) q l = absurd (l (rw q))
@@ -176,7 +178,7 @@ module _ (program code g texts words : List ℕ) (short : length program ≤ 327
     module _ (table code' table' : List ℕ) (word : ℕ) (counted : r.tokens ≡ length (tokens_in program)) (room : 8192 ≤ length table)
         (pass : Pass.pass code' table' word ≡ number_all r.main r.tokens code table) where
       pub read_body : parameters_in r.main ≡ 2 → (lent : Lent g texts words) (blank : Blank g words) → mag width < 2 ^ 31 → mag height < 2 ^ 31
-          → (e : Ending) (ts ws : List ℕ) → shown_ending e ts ws ≡ main_run (setting program code' g) word width height (raw texts words)
+          → (e : Result (Unit {0}) Fault) (ts ws : List ℕ) → out_of e ts ws ≡ main_run (setting program code' g) word width height (raw texts words)
           → Ran program g (reading_run program width height g) e ts ws
       read_body two lent blank w-small h-small e ts ws h =
           by_program e ts ws (λ m s. by_names m s m.main.parameters refl (sym (main_parameters program code r.main m short s) ∙ two))
@@ -196,16 +198,16 @@ module _ (program code g texts words : List ℕ) (short : length program ≤ 327
 -- ---- the questions before
 module _ (program g ts ws : List ℕ) (width height : ℤ) where
   pub no_sheet : get_or ws steps_used 0 ≡ 0 → lt_z (pos 0) width && lt_z (pos 0) height ≡ false
-      → Ran program g (painting_run program width height g) (Stopped 72 0) ts ws
-  unfolding painting sheet shown_ending Run.◌>>=◌ Run.go_on Run.refuse Run.fail
+      → Ran program g (painting_run program width height g) (Err (NoSheet 0)) ts ws
+  unfolding painting sheet out_of Run.◌>>=◌ Run.go_on Run.refuse Run.fail
   no_sheet z e = record { follows = λ granted gr. rw e (failed 72 0 (raw ts ws) z) }
 
   module _ (a_sheet : lt_z (pos 0) width && lt_z (pos 0) height ≡ true) where
-    pub too_long : get_or ws steps_used 0 ≡ 0 → 32768 < length program → Ran program g (painting_run program width height g) (Stopped 73 0) ts ws
-    unfolding painting sheet sized shown_ending Run.◌>>=◌ Run.go_on Run.refuse Run.fail Run.give
+    pub too_long : get_or ws steps_used 0 ≡ 0 → 32768 < length program → Ran program g (painting_run program width height g) (Err (TooLong 0)) ts ws
+    unfolding painting sheet sized out_of Run.◌>>=◌ Run.go_on Run.refuse Run.fail Run.give
     too_long z l = record { follows = λ granted gr. rw (a_sheet, lt-ltb 32768 (length program) l) (failed 73 0 (raw ts ws) z) }
 
-    pub as_read : length program ≤ 32768 → (e : Ending) → Ran program g (reading_run program width height g) e ts ws
+    pub as_read : length program ≤ 32768 → (e : Result (Unit {0}) Fault) → Ran program g (reading_run program width height g) e ts ws
         → Ran program g (painting_run program width height g) e ts ws
     unfolding painting paint_read sheet sized Run.◌>>=◌ Run.go_on Run.refuse Run.give
     as_read l e h = record { follows = λ granted gr. rw (a_sheet, le-ltb 32768 (length program) l) (h.follows granted gr) }

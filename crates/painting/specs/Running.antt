@@ -1,5 +1,5 @@
 -- A run from the program to its picture: how it ends, and what the stores hold then.
-use Rattle.std.specs.Prelude.{ℕ, suc, ◌+◌, ◌^◌, ◌≤◌, ◌<◌, ◌≡◌, List, length, get_or, ℤ}
+use Rattle.std.specs.Prelude.{ℕ, suc, ◌+◌, ◌^◌, ◌≤◌, ◌<◌, ◌≡◌, List, length, get_or, ℤ, Result}
 use Rattle.meaning.specs.Grammar.{reading}
 use Rattle.meaning.specs.Figure.{Figure}
 use Rattle.meaning.specs.State.{State}
@@ -9,15 +9,15 @@ use Rattle.meaning.specs.Program.{empty, painting}
 use Rattle.meaning.specs.Picture.{lines_of}
 use Rattle.machine.specs.Opcodes.{start_in, body_in, frame_in}
 use Rattle.machine.specs.Layout.{steps_used, lines_length, steps_granted, Room}
-use Rattle.machine.specs.Act.{Raw, Act, give, ◌>>◌, ◌>>=◌}
+use Rattle.machine.specs.declared.Fault.{Fault}
+use Rattle.machine.specs.Act.{Raw, Act, give, out_of, ◌>>◌, ◌>>=◌}
 use Rattle.machine.specs.Evaluate.{Setting}
 use Rattle.machine.specs.Interpret.{body_at}
 use Rattle.simulation.specs.Follows.{Grants, Follows}
 use Rattle.lending.specs.Lending.{Ready}
 use Rattle.scene.specs.Scene.{scene_in}
-use Rattle.prologue.specs.Prologue.{main_begins, main_ends, shown_ending, Blank}
+use Rattle.prologue.specs.Prologue.{main_begins, main_ends, Blank}
 use Rattle.painting.specs.Specified.{paint_read}
-use Rattle.prologue.specs.declared.Ending.{Ending}
 
 -- how deep expressions, statements and calls may be inside one another: 64 calls of a program's whole code need less than half of it
 abbrev pub main_fuel : ℕ
@@ -44,8 +44,8 @@ pub record Painted (program g : List ℕ) (a : Unit {0}) (figures : List Figure)
   pub told : get_or r.words steps_used 0 ≡ total steps
 
 -- the run ends as the book of a specified run does, whatever out slice there is
-pub record Ran (program : List ℕ) (g : List ℕ) (m : Run (List Figure)) (e : Ending) (ts ws : List ℕ) : Type 0 where
-  pub follows : (granted : Amounts) → Grants g granted → Follows granted nothing_yet (Painted program g) (shown_ending e ts ws) m
+pub record Ran (program : List ℕ) (g : List ℕ) (m : Run (List Figure)) (e : Result (Unit {0}) Fault) (ts ws : List ℕ) : Type 0 where
+  pub follows : (granted : Amounts) → Grants g granted → Follows granted nothing_yet (Painted program g) (out_of e ts ws) m
 
 abbrev pub painting_run : List ℕ → ℤ → ℤ → List ℕ → Run (List Figure)
 painting_run program width height g = painting program width height (suc (steps_granted g)) empty

@@ -2,8 +2,7 @@
 use Prim.Native.Nat.{ℕ, zero, suc, ◌+◌, ◌-◌, ◌≤◌, ◌<◌}
 use native.Mathlib.Omega.{arith}
 use native.Mathlib.Nat.{add-mul}
-use mathlib.Core.Path.{◌≡◌, refl, ap, sym, ◌∙◌}
-use mathlib.Core.Bool.{Bool, true, false, not}
+use mathlib.Core.Path.{◌≡◌, refl, ap, ◌∙◌}
 use mathlib.Core.List.{List, ◌++◌}
 use lib.ListN.{get_or, set, length, take, drop, replicate, length-append, length-set, length-drop, length-replicate, get_or-append}
 use lib.Seq.{length-take-le, get_or-take, get_or-append-add}
@@ -12,6 +11,7 @@ use mir.Syntax.{w32}
 use mir.Val.{to_z, of_z, SFits}
 use mir.Facts.{to_z-of_z}
 use borrow.Author.Tests.{not-true, not-false, eq-eqb, ne_eqb}
+use lib.Dec.{eqb}
 use borrow.Rule.Slice.PartMut.{mid_of, put_mid, mid_len}
 use Rattle.std.specs.Prelude.{Result, Ok, Err}
 use Rattle.machine.specs.declared.Fault.{Fault}
@@ -19,14 +19,15 @@ use Rattle.machine.specs.Fault.{number_of, place_of}
 use Rattle.machine.specs.declared.Value.TheVariants.{Integer}
 use Rattle.machine.specs.Words.{packed}
 use Rattle.machine.specs.Layout.{calls_used, shapes_granted, entries_granted, calls_granted, argument_place, shape_place, entry_place, component_place, Room}
-use Rattle.machine.specs.Act.{raw, go_on, ◌>>=◌, give, fail, refuse, store, passed, Passes, Pays, Gives, out_of, Does}
+use Rattle.machine.specs.Act.{raw, go_on, ◌>>=◌, give, fail, refuse, store, passed, Passes, Pays, Gives, out_of, Does, spend}
 use Rattle.machine.specs.Variables.{set_variable}
 use Rattle.machine.specs.Procedures.{open_frame}
-use Rattle.stores.proofs.Acts.{after_pass, after_refusal, after_gift}
 use Rattle.machine.specs.Show.{show_scene}
 use Rattle.scene.specs.Measuring.{size_with}
-use Rattle.prologue.specs.declared.Ending.TheVariants.{Complete, Stopped}
-use Rattle.prologue.specs.Prologue.{main_begins, Begins, main_ends, shown_ending, Blank}
+use Rattle.prologue.specs.Prologue.{main_begins, main_ends, Blank}
+use Rattle.std.specs.Prelude.{Result, Ok, Err}
+use Rattle.machine.specs.declared.Fault.{Fault}
+use Rattle.machine.specs.declared.Fault.TheVariants.{DeclaredTwice}
 
 -- a signed number handed over, as its bits
 abbrev held : ℤ → ℤ
@@ -81,37 +82,15 @@ module _ (g ws e f : List ℕ) (a b : ℕ) (room : Room g ws) (from : a ≡ shap
 
 -- ---- `enter`
 module _ (g : List ℕ) (n : ℕ) (width height : ℤ) (ws : List ℕ) where
-  pub one_name : n ≡ 0 → Begins ws (main_begins g n width height) (Stopped 60 0) ws
-  unfolding main_begins shown_ending refuse fail ◌>>=◌ go_on
+  pub one_name : n ≡ 0 → Does ws (main_begins g n width height) (Err (DeclaredTwice 0)) ws
+  unfolding main_begins out_of refuse fail ◌>>=◌ go_on
   one_name z = record { equal = λ ts. rw (eq-eqb n 0 z) }
 
-  module _ (some : n ≡ 0 → ⊥) (limit : ℕ) (l : limit ≡ calls_granted g) (ok : Bool) (ws₁ : List ℕ) (h : Pays ws calls_used limit 1 ok ws₁) where
-    paid_then : (ts : List ℕ) → main_begins g n width height (raw ts ws)
-        ≡ go_on (passed ok 81 0 ts ws₁) (λ _. open_frame 0 2 n 0 >>= λ _. set_variable 0 (packed (Integer width)) >>= λ _. set_variable 1 (packed (Integer height)))
-    unfolding main_begins refuse give ◌>>=◌ go_on
-    paid_then ts = rw (ne_eqb n 0 some, ← l, ← h.equal 81 0 ts)
-
-    pub call_refused : not ok ≡ true → Begins ws (main_begins g n width height) (Stopped 81 0) ws₁
-    unfolding passed go_on shown_ending
-    call_refused t = record { equal = λ ts. sym (paid_then ts ∙ rw (not-true ok t)) }
-
-    module _ (t : not ok ≡ false) (ok₂ : Bool) (ws₂ : List ℕ) (h₂ : Passes ws₁ 20 (open_frame 0 2 n) ok₂ ws₂) where
-      opened_then : (ts : List ℕ) → main_begins g n width height (raw ts ws)
-          ≡ (open_frame 0 2 n 0 >>= λ _. set_variable 0 (packed (Integer width)) >>= λ _. set_variable 1 (packed (Integer height))) (raw ts ws₁)
-      unfolding passed go_on
-      opened_then ts = paid_then ts ∙ rw (not-false ok t)
-
-      pub frame_refused : not ok₂ ≡ true → Begins ws (main_begins g n width height) (Stopped 20 0) ws₂
-      unfolding shown_ending
-      frame_refused t₂ = record { equal = λ ts. sym (opened_then ts ∙ after_refusal _ 0 ts (rw (not-true ok₂ t₂) at h₂)) }
-
-      pub both_entered : not ok₂ ≡ false → SFits w32 width → SFits w32 height → (w k : ℕ) (ws₃ ws₄ : List ℕ) → w ≡ packed (Integer (held width)) → Gives ws₂ (set_variable 0 w) tt ws₃
-          → k ≡ packed (Integer (held height)) → Gives ws₃ (set_variable 1 k) tt ws₄ → Begins ws (main_begins g n width height) Complete ws₄
-      unfolding shown_ending
-      both_entered t₂ f f₂ w k ws₃ ws₄ e s e₂ s₂ =
-          let d : w ≡ packed (Integer width) = e ∙ rw (to_z-of_z f) in
-          let d₂ : k ≡ packed (Integer height) = e₂ ∙ rw (to_z-of_z f₂) in
-          record { equal = λ ts. sym (opened_then ts ∙ after_pass _ 0 ts (rw (not-false ok₂ t₂) at h₂) ∙ rw (← d, ← d₂) (after_gift _ ts s ∙ sym (s₂.equal ts))) }
+  pub begins : (n ≡ 0 → ⊥) → SFits w32 width → SFits w32 height → {r : Result (Unit {0}) Fault} {ws' : List ℕ}
+      → Does ws (spend calls_used (calls_granted g) 1 81 0 >>= λ _. open_frame 0 2 n 0 >>= λ _. set_variable 0 (packed (Integer (held width))) >>= λ _. set_variable 1 (packed (Integer (held height)))) r ws'
+      → Does ws (main_begins g n width height) r ws'
+  unfolding main_begins refuse give ◌>>=◌ go_on
+  begins z f f₂ h = record { equal = λ ts. h.equal ts ∙ rw (ne_eqb n 0 z, to_z-of_z f, to_z-of_z f₂) refl }
 
 -- ---- `leave`
 pub left_room : {g : List ℕ} (ws : List ℕ) (x : ℕ) → Room g ws → Room g (set ws calls_used x)
@@ -120,15 +99,6 @@ left_room ws x h = record { steps = h.steps; shapes = h.shapes; entries = h.entr
 pub left_long : (ws : List ℕ) (x : ℕ) {n : ℕ} → n ≡ length (set ws calls_used x) → n ≡ length ws
 left_long ws x e = e ∙ length-set ws calls_used x
 
-module _ (program ts g ws ws₁ : List ℕ) (e : ws₁ ≡ set ws calls_used 0) (ws₂ : List ℕ) where
-  left_so : (r : Result (Unit {0}) Fault) → Does ws₁ (show_scene (size_with program ts) g) r ws₂ → (us : List ℕ) → out_of r us ws₂ ≡ main_ends program ts g (raw us ws)
-  unfolding main_ends ◌>>=◌ go_on store
-  left_so r f us = f.equal us ∙ rw e
-
-  pub left_short : (y : Fault) (n p : ℕ) → Does ws₁ (show_scene (size_with program ts) g) (Err y) ws₂ → n ≡ number_of y → p ≡ place_of y → Begins ws (main_ends program ts g) (Stopped n p) ws₂
-  unfolding out_of shown_ending
-  left_short y n p f i j = rw (i, j) record { equal = left_so (Err y) f }
-
-  pub left_whole : Does ws₁ (show_scene (size_with program ts) g) (Ok tt) ws₂ → Begins ws (main_ends program ts g) Complete ws₂
-  unfolding out_of shown_ending
-  left_whole f = record { equal = left_so (Ok tt) f }
+pub left : {program ts g ws ws₁ : List ℕ} {r : Result (Unit {0}) Fault} {ws₂ : List ℕ} → ws₁ ≡ set ws calls_used 0 → Does ws₁ (show_scene (size_with program ts) g) r ws₂ → Does ws (main_ends program ts g) r ws₂
+unfolding main_ends ◌>>=◌ go_on store
+left e f = record { equal = λ us. f.equal us ∙ rw e }

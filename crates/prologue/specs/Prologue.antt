@@ -3,22 +3,11 @@ use Rattle.std.specs.Prelude.{ℕ, ◌≤◌, ◌<◌, ◌≡◌, List, get_or, 
 use Rattle.machine.specs.declared.Value.TheVariants.{Integer}
 use Rattle.machine.specs.Words.{packed}
 use Rattle.machine.specs.Layout.{calls_used, calls_granted, argument_place, entry_place, component_place}
-use Rattle.machine.specs.Act.{raw, Out, done, stop, Act, refuse, store, spend, ◌>>◌}
+use Rattle.machine.specs.Act.{Act, refuse, store, spend, ◌>>◌}
 use Rattle.machine.specs.Variables.{set_variable}
 use Rattle.machine.specs.Procedures.{open_frame}
 use Rattle.machine.specs.Show.{show_scene}
 use Rattle.scene.specs.Measuring.{size_with}
-use Rattle.prologue.specs.declared.Ending.{Ending}
-use Rattle.prologue.specs.declared.Ending.TheVariants.{Complete, Stopped}
-
--- ---- how code ends
-unfoldable pub shown_ending : Ending → List ℕ → List ℕ → Out (Unit {0})
-shown_ending Complete ts ws = done tt (raw ts ws)
-shown_ending (Stopped n p) ts ws = stop n p (raw ts ws)
-
--- code that is handed the words alone ends as an act does, whatever the text store holds
-pub record Begins (before : List ℕ) (act : Act (Unit {0})) (e : Ending) (after : List ℕ) : Type 0 where
-  pub equal : (ts : List ℕ) → shown_ending e ts after ≡ act (raw ts before)
 
 -- ---- before
 -- the words hold zeros before the stack and where entries stand; what the others hold means nothing

@@ -3,16 +3,10 @@
 
 ghost use Rattle.std.specs.Prelude.{◌≤◌, length};
 ghost use Rattle.machine.specs.Layout.{fixed_words, Room};
-ghost use Rattle.prologue.specs.Prologue.{main_begins, Begins, main_ends, Blank};
+ghost use Rattle.machine.specs.Act.{Does};
+ghost use Rattle.prologue.specs.Prologue.{main_begins, main_ends, Blank};
 
-use machine::{Value, counters, granted, layout};
-
-// How a run ends: main is done, or a number and its place.
-#[derive(Clone, Copy)]
-pub enum Ending {
-    Complete,
-    Stopped(u64, u64),
-}
+use machine::{Fault, Value, counters, granted, layout};
 
 // Zeros in the words before the stack and in those of entries. What the others hold before a run does not count.
 pub fn clear_first(words: &mut [u64], grants: &[u64; 5])
@@ -26,33 +20,37 @@ pub fn clear_first(words: &mut [u64], grants: &[u64; 5])
 }
 
 // Main begins, by how many words its variables take: its parameters hold the width and the height; 60 if they have one name. Main is the first call.
-pub fn enter(words: &mut [u64], grants: &[u64; 5], n: usize, width: i32, height: i32) -> Ending
+pub fn enter(
+    words: &mut [u64],
+    grants: &[u64; 5],
+    n: usize,
+    width: i32,
+    height: i32,
+) -> Result<(), Fault>
     requires { fixed_words ≤ length words.old }
-    ensures { Begins words.old (main_begins grants.now n width height) result words.new }
+    ensures { Does words.old (main_begins grants.now n width height) result words.new }
 {
     if n == 0 {
-        return Ending::Stopped(60, 0);
+        return Err(Fault::DeclaredTwice(0));
     }
     let limit = grants[granted::CALLS];
-    if !stores::counters::spend_one(words, counters::CALLS, limit) {
-        return Ending::Stopped(81, 0);
-    }
-    if !frames::calls::open_frame(words, 0, 2, n) {
-        return Ending::Stopped(20, 0);
-    }
+    stores::counters::pay_one(words, counters::CALLS, limit, Fault::NoCallLeft(0))?;
+    frames::calls::open_frame(words, 0, 2, n, 0)?;
     frames::variables::set_variable(words, 0, values::pack(Value::Integer(width)));
     frames::variables::set_variable(words, 1, values::pack(Value::Integer(height)));
-    Ending::Complete
+    Ok(())
 }
 
 // Main returns: its call is given back, and the scene that it leaves is measured. 79 if the steps run out.
-pub fn leave<'a>(program: &'a [u8], texts: &'a [u8], words: &mut [u64], grants: &[u64; 5]) -> Ending
+pub fn leave<'a>(
+    program: &'a [u8],
+    texts: &'a [u8],
+    words: &mut [u64],
+    grants: &[u64; 5],
+) -> Result<(), Fault>
     requires { Room grants.now words.old }
-    ensures { Begins words.old (main_ends program.now texts.now grants.now) result words.new }
+    ensures { Does words.old (main_ends program.now texts.now grants.now) result words.new }
 {
     words[counters::CALLS] = 0;
-    match scene::measure_scene(program, texts, words, grants) {
-        Ok(_) => Ending::Complete,
-        Err(e) => Ending::Stopped(e.number(), e.place()),
-    }
+    scene::measure_scene(program, texts, words, grants)
 }

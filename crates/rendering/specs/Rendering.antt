@@ -1,11 +1,10 @@
 -- What drawing comes to where enough is lent.
-use Rattle.std.specs.Prelude.{ℕ, suc, ◌≡◌, List, ℤ}
+use Rattle.std.specs.Prelude.{ℕ, suc, ◌≡◌, List, ℤ, Ok}
 use Rattle.meaning.specs.Run.{Run}
 use Rattle.meaning.specs.Program.{Outcome, drawing, specified}
 use Rattle.meaning.specs.Book.{Answer, nothing_yet, book, booked}
 use Rattle.meaning.specs.Call.{granted, out_after_end}
 use Rattle.machine.specs.Layout.{steps_granted}
-use Rattle.prologue.specs.declared.Ending.TheVariants.{Complete}
 use Rattle.painting.specs.Running.{Ran, painting_run}
 use Rattle.lending.specs.Lending.{grants_of}
 
@@ -19,4 +18,4 @@ pub record Drawn (program : List ℕ) (width height : ℤ) (g out : List ℕ) (a
 
 -- the run was completed, and these are its stores
 pub record Scene (program : List ℕ) (width height : ℤ) (g words texts : List ℕ) : Type 0 where
-  pub ran : Ran program g (painting_run program width height g) Complete texts words
+  pub ran : Ran program g (painting_run program width height g) (Ok tt) texts words

@@ -1,5 +1,5 @@
 -- One law for each way through each function.
-use Prim.Native.Nat.{ℕ, ◌+◌, ◌-◌, ◌^◌, ◌≤◌, ◌<◌}
+use Prim.Native.Nat.{ℕ, ◌+◌, ◌^◌, ◌≤◌, ◌<◌}
 use native.Mathlib.Omega.{arith}
 use mathlib.Core.Path.{◌≡◌, refl, ap, sym, ◌∙◌}
 use mathlib.Core.Bool.{Bool, true, false, not, ◌&&◌}
@@ -18,22 +18,19 @@ use Rattle.reader.specs.declared.Malformed.{Malformed}
 use Rattle.reader.specs.Reading.{seen, coded, tokens_in, Kept}
 use Rattle.reader.proofs.Whole.{whole}
 use Rattle.numbering.specs.Pass.{pass, number_all}
-use Rattle.machine.specs.declared.Value.{Value}
 use Rattle.machine.specs.Opcodes.{start_in, parameters_in, body_in, frame_in}
 use Rattle.machine.specs.Layout.{steps_used, Room, Lent}
-use Rattle.machine.specs.Act.{raw, go_on, ◌>>=◌, give}
+use Rattle.machine.specs.Act.{◌>>=◌, give, Does, DoesIn}
 use Rattle.machine.specs.Evaluate.{setting}
-use Rattle.machine.specs.declared.Flow.{Flow}
-use Rattle.machine.specs.declared.Flow.TheVariants as flows
 use Rattle.machine.specs.Interpret.{body_at}
-use Rattle.machine.specs.Effects.{shown_flow}
 use Rattle.interpreter.specs.Asked.{Body}
 use Rattle.interpreter.proofs.ExpressionLaws.{still_lent}
-use Rattle.effects.proofs.Acts.{flow_on, flow_returns, flow_stops}
-use Rattle.prologue.specs.declared.Ending.{Ending}
-use Rattle.prologue.specs.declared.Ending.TheVariants.{Complete, Stopped}
+use Rattle.std.specs.Prelude.{Result, Ok, Err}
+use Rattle.machine.specs.declared.Fault.{Fault}
+use Rattle.machine.specs.declared.Fault.TheVariants.{Misuse, NoSheet, TooLong, Numbered}
+use Rattle.machine.proofs.Acts.{goes_in, fails_in}
 use Rattle.lending.specs.Lending.{Ready}
-use Rattle.prologue.specs.Prologue.{main_begins, Begins, main_ends, shown_ending, Blank}
+use Rattle.prologue.specs.Prologue.{main_begins, main_ends, Blank}
 use Rattle.painting.specs.Running.{main_fuel, body_run, main_run, Ran, painting_run, reading_run, ReadyToRead}
 use Rattle.painting.proofs.Painting.{read_malformed, read_parameters, read_body, no_sheet, too_long, as_read}
 
@@ -51,31 +48,12 @@ module _ {width height : ℤ} (f : SFits w32 width) (h : SFits w32 height) where
 
 -- ---- `run_body`
 module _ (program code g : List ℕ) (main : ℕ) (width height : ℤ) (f : SFits w32 width) (f₂ : SFits w32 height) (a n : ℕ) (ea : a ≡ start_in main) (en : n ≡ frame_in main)
-    (ts ws ws₁ : List ℕ) (begun : Ending) (begins : Begins ws (main_begins g n (held width) (held height)) begun ws₁) where
-  begun_so : shown_ending begun ts ws₁ ≡ main_begins g (frame_in main) width height (raw ts ws)
-  begun_so = begins.equal ts ∙ rw (to_z-of_z f, to_z-of_z f₂, en)
-
-  pub not_entered : (k p : ℕ) → begun ≡ Stopped k p → shown_ending (Stopped k p) ts ws₁ ≡ body_run (setting program code g) main width height (raw ts ws)
-  unfolding body_run shown_ending ◌>>=◌ go_on
-  not_entered k p t = sym (rw (← begun_so, t))
-
-  module _ (t : begun ≡ Complete) (size : ℕ) (es : size ≡ body_in main) (flow : Flow) (ts₂ ws₂ : List ℕ) (e : shown_flow flow ts₂ ws₂
-      ≡ body_at main_fuel (setting program code g) (a + 2) size (raw ts ws₁)) where
-    entered_then : body_run (setting program code g) main width height (raw ts ws) ≡ go_on (body_at main_fuel (setting program code g) (a + 2) size (raw ts ws₁)) (λ _. give tt)
-    unfolding body_run shown_ending ◌>>=◌ go_on
-    entered_then = rw (← begun_so, t, ea, es)
-
-    pub body_onward : flow ≡ flows.Onward → shown_ending Complete ts₂ ws₂ ≡ body_run (setting program code g) main width height (raw ts ws)
-    unfolding shown_ending give
-    body_onward q = sym (entered_then ∙ flow_on (λ _. give tt) e q)
-
-    pub body_returned : (v : Value) → flow ≡ flows.Returned v → shown_ending Complete ts₂ ws₂ ≡ body_run (setting program code g) main width height (raw ts ws)
-    unfolding shown_ending give
-    body_returned v q = sym (entered_then ∙ flow_returns (λ _. give tt) e q)
-
-    pub body_stopped : (k p : ℕ) → flow ≡ flows.Stopped k p → shown_ending (Stopped k p) ts₂ ws₂ ≡ body_run (setting program code g) main width height (raw ts ws)
-    unfolding shown_ending
-    body_stopped k p q = sym (entered_then ∙ flow_stops (λ _. give tt) e q)
+    {r : Result (Unit {0}) Fault} {ts ws ts' ws' : List ℕ} where
+  pub body_by : (size : ℕ) → size ≡ body_in main
+      → DoesIn ts ws (main_begins g n (held width) (held height) >>= λ _. body_at main_fuel (setting program code g) (a + 2) size >>= λ _. give tt) r ts' ws'
+      → DoesIn ts ws (body_run (setting program code g) main width height) r ts' ws'
+  unfolding body_run
+  body_by size es h = rw (ea, en, es, to_z-of_z f, to_z-of_z f₂) at h
 
 -- what the interpreter asks
 pub body_starts : (g ts ws ws₁ : List ℕ) (a n : ℕ) → Lent g ts ws → length ws₁ ≡ length ws → a < 2 ^ 16 → n < 2 ^ 32 → Body g ts ws₁ main_fuel (a + 2) n
@@ -85,19 +63,19 @@ body_starts g ts ws ws₁ a n l j i k = record { lent = record { lent = still_le
 pub still_room : (g ts ws ts₁ ws₁ : List ℕ) → Lent g ts ws → length ts₁ ≡ length ts → length ws₁ ≡ length ws → Room g ws₁
 still_room g ts ws ts₁ ws₁ l i j = (still_lent g ts ws ts₁ ws₁ l i j).room
 
-module _ (program code g : List ℕ) (main : ℕ) (width height : ℤ) (f : SFits w32 width) (f₂ : SFits w32 height) (ts ws : List ℕ) (x : Ending) (ts₁ ws₁ : List ℕ)
-    (body : shown_ending x ts₁ ws₁ ≡ body_run (setting program code g) main (held width) (held height) (raw ts ws)) where
-  ran_so : shown_ending x ts₁ ws₁ ≡ body_run (setting program code g) main width height (raw ts ws)
+module _ (program code g : List ℕ) (main : ℕ) (width height : ℤ) (f : SFits w32 width) (f₂ : SFits w32 height) {x : Result (Unit {0}) Fault} {ts ws ts₁ ws₁ : List ℕ}
+    (body : DoesIn ts ws (body_run (setting program code g) main (held width) (held height)) x ts₁ ws₁) where
+  ran_so : DoesIn ts ws (body_run (setting program code g) main width height) x ts₁ ws₁
   ran_so = rw (to_z-of_z f, to_z-of_z f₂) at body
 
-  pub main_stopped : (k p : ℕ) → x ≡ Stopped k p → shown_ending (Stopped k p) ts₁ ws₁ ≡ main_run (setting program code g) main width height (raw ts ws)
-  unfolding main_run shown_ending ◌>>=◌ go_on
-  main_stopped k p q = sym (rw (← ran_so, q))
+  pub main_stopped : {e : Fault} → x ≡ Err e → DoesIn ts ws (main_run (setting program code g) main width height) (Err e) ts₁ ws₁
+  unfolding main_run
+  main_stopped q = fails_in _ (rw q at ran_so)
 
-  pub main_left : x ≡ Complete → (y : Ending) (ws₂ : List ℕ) → Begins ws₁ (main_ends program ts₁ g) y ws₂
-      → shown_ending y ts₁ ws₂ ≡ main_run (setting program code g) main width height (raw ts ws)
-  unfolding main_run shown_ending ◌>>=◌ go_on
-  main_left q y ws₂ b = b.equal ts₁ ∙ sym (rw (← ran_so, q))
+  pub main_left : x ≡ Ok tt → {y : Result (Unit {0}) Fault} {ws₂ : List ℕ} → Does ws₁ (main_ends program ts₁ g) y ws₂
+      → DoesIn ts ws (main_run (setting program code g) main width height) y ts₁ ws₂
+  unfolding main_run
+  main_left q b = goes_in _ (rw q at ran_so) record { equal = b.equal ts₁ }
 
 -- ---- `run_read`
 -- how many tokens a program has that was read
@@ -113,22 +91,22 @@ few_tokens program code tokens₁ r left kept =
 
 module _ (program code g tokens unread ts ws : List ℕ) (ready : ReadyToRead program g tokens unread ts ws) (width height : ℤ) where
   pub way_malformed : (r : Malformed) → seen (Err r) code ≡ coded (tokens_in program) (reading program)
-      → Ran program g (reading_run program width height g) (Stopped r.number r.place) ts ws
+      → Ran program g (reading_run program width height g) (Err (Numbered r.number r.place)) ts ws
   way_malformed r left = read_malformed program code g ts ws ready.short width height (ready.blank.front steps_used (omega arith)) r left
 
   module _ (r : Program) (left : seen (Ok r) code ≡ coded (tokens_in program) (reading program)) (k : ℕ) (q : k ≡ parameters_in r.main) where
-    pub way_parameters : (k ≡ 2 → ⊥) → Ran program g (reading_run program width height g) (Stopped 20 0) ts ws
+    pub way_parameters : (k ≡ 2 → ⊥) → Ran program g (reading_run program width height g) (Err (Misuse 0)) ts ws
     way_parameters h = read_parameters program code g ts ws ready.short width height r left (ready.blank.front steps_used (omega arith)) (λ p. h (q ∙ p))
 
     -- its variables numbered, with the slice of tokens as a table
     module _ (tokens₁ : List ℕ) (kept : Kept (Ok r) (tokens_in program) tokens₁) where
       pub way_main : k ≡ 2 → length tokens₁ ≡ length tokens → (code₁ tokens₂ : List ℕ) (word : ℕ) → pass code₁ tokens₂ word ≡ number_all r.main r.tokens code tokens₁
-          → SFits w32 width → SFits w32 height → (x : Ending) (ts₁ ws₁ : List ℕ)
-          → shown_ending x ts₁ ws₁ ≡ main_run (setting program code₁ g) word (held width) (held height) (raw ts ws)
+          → SFits w32 width → SFits w32 height → (x : Result (Unit {0}) Fault) (ts₁ ws₁ : List ℕ)
+          → DoesIn ts ws (main_run (setting program code₁ g) word (held width) (held height)) x ts₁ ws₁
           → Ran program g (reading_run program width height g) x ts₁ ws₁
       way_main two long code₁ tokens₂ word numbered f f₂ x ts₁ ws₁ h =
           read_body program code g ts ws ready.short width height r left tokens₁ code₁ tokens₂ word (counted program tokens₁ r kept) (omega (arith, long, ready.ready.tokens_long)) numbered
-          (sym q ∙ two) ready.ready.lent ready.blank f.sfits f₂.sfits x ts₁ ws₁ (rw (to_z-of_z f, to_z-of_z f₂) at h)
+          (sym q ∙ two) ready.ready.lent ready.blank f.sfits f₂.sfits x ts₁ ws₁ (rw (to_z-of_z f, to_z-of_z f₂) at h).equal
 
 -- ---- `run`
 module _ (program g tokens code ts ws₀ ws : List ℕ) (ready : Ready g tokens code ts ws₀) (long : length ws ≡ length ws₀) (blank : Blank g ws) (width height : ℤ)
@@ -136,14 +114,14 @@ module _ (program g tokens code ts ws₀ ws : List ℕ) (ready : Ready g tokens 
   is : ok ≡ (lt_z (pos 0) width && lt_z (pos 0) height)
   is = sheet ∙ rw (to_z-of_z f, to_z-of_z f₂)
 
-  pub run_no_sheet : not ok ≡ true → Ran program g (painting_run program width height g) (Stopped 72 0) ts ws
+  pub run_no_sheet : not ok ≡ true → Ran program g (painting_run program width height g) (Err (NoSheet 0)) ts ws
   run_no_sheet t = no_sheet program g ts ws width height (blank.front steps_used (omega arith)) (sym is ∙ not-true ok t)
 
   module _ (t : not ok ≡ false) where
     a_sheet : lt_z (pos 0) width && lt_z (pos 0) height ≡ true
     a_sheet = sym is ∙ not-false ok t
 
-    pub run_too_long : 32768 < length program → Ran program g (painting_run program width height g) (Stopped 73 0) ts ws
+    pub run_too_long : 32768 < length program → Ran program g (painting_run program width height g) (Err (TooLong 0)) ts ws
     run_too_long l = too_long program g ts ws width height a_sheet (blank.front steps_used (omega arith)) l
 
     module _ (short : length program ≤ 32768) where
@@ -154,7 +132,7 @@ module _ (program g tokens code ts ws₀ ws : List ℕ) (ready : Ready g tokens 
         blank = blank;
       }
 
-      pub run_as_read : (x : Ending) (ts₁ ws₁ : List ℕ)
+      pub run_as_read : (x : Result (Unit {0}) Fault) (ts₁ ws₁ : List ℕ)
           → Ran program g (reading_run program (held width) (held height) g) x ts₁ ws₁
           → Ran program g (painting_run program width height g) x ts₁ ws₁
       run_as_read x ts₁ ws₁ h = as_read program g ts₁ ws₁ width height a_sheet short x (rw (to_z-of_z f, to_z-of_z f₂) at h)

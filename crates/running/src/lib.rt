@@ -3,15 +3,13 @@
 
 ghost use Rattle.std.specs.Prelude.{◌≡◌, ◌&&◌, pos};
 ghost use Rattle.std.specs.Int.Signed.{lt_z};
-ghost use Rattle.machine.specs.Act.{raw};
+ghost use Rattle.machine.specs.Act.{DoesIn};
 ghost use Rattle.machine.specs.Layout.{Lent};
 ghost use Rattle.machine.specs.Evaluate.{setting};
 ghost use Rattle.lending.specs.Lending.{Ready};
-ghost use Rattle.prologue.specs.Prologue.{shown_ending};
 ghost use Rattle.painting.specs.Running.{body_run, main_run, Ran, painting_run, reading_run, ReadyToRead};
 
-use machine::Flow;
-use prologue::Ending;
+use machine::Fault;
 
 // How deep expressions, statements and calls may be inside one another: 64 calls of a program's whole code need less than half of it.
 const FUEL: usize = 2097152;
@@ -33,17 +31,14 @@ fn run_body(
     main: u64,
     width: i32,
     height: i32,
-) -> Ending
+) -> Result<(), Fault>
     requires { Lent grants.now texts.old words.old }
-    ensures { shown_ending result texts.new words.new
-        ≡ body_run (setting program.now code.now grants.now) main width height (raw texts.old words.old) }
+    ensures { DoesIn texts.old words.old (body_run (setting program.now code.now grants.now) main width height)
+        result texts.new words.new }
 {
     let a = code::start_of(main);
-    match prologue::enter(words, grants, code::frame_of(main), width, height) {
-        Ending::Complete => {}
-        Ending::Stopped(k, p) => return Ending::Stopped(k, p),
-    }
-    match interpreter::body(
+    prologue::enter(words, grants, code::frame_of(main), width, height)?;
+    interpreter::body(
         program,
         code,
         grants,
@@ -52,11 +47,8 @@ fn run_body(
         FUEL,
         a + 2,
         code::body_of(main),
-    ) {
-        Flow::Onward => Ending::Complete,
-        Flow::Returned(_) => Ending::Complete,
-        Flow::Stopped(k, p) => Ending::Stopped(k, p),
-    }
+    )?;
+    Ok(())
 }
 
 // Main from its beginning to its return.
@@ -69,18 +61,13 @@ fn run_main(
     main: u64,
     width: i32,
     height: i32,
-) -> Ending
+) -> Result<(), Fault>
     requires { Lent grants.now texts.old words.old }
-    ensures { shown_ending result texts.new words.new
-        ≡ main_run (setting program.now code.now grants.now) main width height (raw texts.old words.old) }
+    ensures { DoesIn texts.old words.old (main_run (setting program.now code.now grants.now) main width height)
+        result texts.new words.new }
 {
-    match run_body(program, code, grants, texts, words, main, width, height) {
-        Ending::Complete => {
-            let r = prologue::leave(program, texts, words, grants);
-            r
-        }
-        Ending::Stopped(k, p) => Ending::Stopped(k, p),
-    }
+    run_body(program, code, grants, texts, words, main, width, height)?;
+    prologue::leave(program, texts, words, grants)
 }
 
 // A program of at most 32,768 bytes on a sheet, with words that are cleared for a run.
@@ -93,20 +80,19 @@ fn run_read(
     code: &mut [u64],
     words: &mut [u64],
     texts: &mut [u8],
-) -> Ending
+) -> Result<(), Fault>
     requires { ReadyToRead program.now grants.now tokens.old code.old texts.old words.old }
     ensures { Ran program.now grants.now (reading_run program.now width height grants.now)
         result texts.new words.new }
 {
     match reader::read(program, tokens, code) {
-        Err(m) => Ending::Stopped(m.number, m.place as u64),
+        Err(m) => Err(Fault::Numbered(m.number, m.place as u64)),
         Ok(p) => {
             if code::parameters_of(p.main) != 2 {
-                return Ending::Stopped(20, 0);
+                return Err(Fault::Misuse(0));
             }
             let main = numbering::number(code, tokens, p.tokens, p.main);
-            let r = run_main(program, code, grants, texts, words, main, width, height);
-            r
+            run_main(program, code, grants, texts, words, main, width, height)
         }
     }
 }
@@ -121,18 +107,17 @@ pub fn run(
     code: &mut [u64],
     words: &mut [u64],
     texts: &mut [u8],
-) -> Ending
+) -> Result<(), Fault>
     requires { Ready grants.now tokens.old code.old texts.old words.old }
     ensures { Ran program.now grants.now (painting_run program.now width height grants.now)
         result texts.new words.new }
 {
     prologue::clear_first(words, grants);
     if !is_sheet(width, height) {
-        return Ending::Stopped(72, 0);
+        return Err(Fault::NoSheet(0));
     }
     if 32768 < program.len() {
-        return Ending::Stopped(73, 0);
+        return Err(Fault::TooLong(0));
     }
-    let r = run_read(program, width, height, grants, tokens, code, words, texts);
-    r
+    run_read(program, width, height, grants, tokens, code, words, texts)
 }

@@ -12,9 +12,8 @@ use Rattle.machine.specs.Words.{kind_in, kind_truth, packed}
 use Rattle.machine.specs.Act.{Raw, Out, done, stop, Act, go_on, ◌>>=◌, ◌>>◌, give, fail, count}
 use Rattle.machine.specs.Stack.{push}
 use Rattle.machine.specs.Operate.{with_boolean}
-use Rattle.machine.specs.Primaries.{push_word}
 use Rattle.machine.specs.Evaluate.{Setting, Evaluator, argument_of}
-use Rattle.machine.specs.Effects.{shown_test, outcome_in, saying}
+use Rattle.machine.specs.Effects.{saying}
 use Rattle.machine.specs.Execute.{test_of, turning}
 
 pub regroup : {A B C : Type 0} (o : Out A) (f : A → Act B) (g : B → Act C) → go_on (go_on o f) g ≡ go_on o (λ a r. go_on (f a r) g)
@@ -27,22 +26,17 @@ unfolding ◌>>=◌
 regrouped m f g = λ i r. regroup (m r) f g i
 
 -- an argument pushed, and then more
-push_then : {A : Type 0} (p : ℕ) (v : Value) (k : Act A) → ((push (packed v) p >> give Nothing) >> k) ≡ (push (packed v) p >> k)
-unfolding ◌>>=◌ go_on give
-push_then p v k = λ i r. regroup (push (packed v) p r) (λ _. give Nothing) (λ _. k) i
-
 pub pushed_then : {A : Type 0} (inner : Evaluator) (y p : ℕ) (k : Act A) → (argument_of inner y p >> k) ≡ (inner y p >>= λ v. push (packed v) p >> k)
-unfolding argument_of push_word
-pushed_then inner y p k =
-    regrouped (inner y p) (λ v. push (packed v) p >> give Nothing) (λ _. k) ∙ ap (λ f. inner y p >>= f) (λ i v. push_then p v k i)
+unfolding argument_of
+pushed_then inner y p k = regrouped (inner y p) (λ v. push (packed v) p) (λ _. k)
 
 -- a test by the word of a value, and then more
 no_truth : {A : Type 0} (w p : ℕ) (k : Bool → Act A) → (kind_in w ≡ kind_truth → ⊥) → (r : Raw) → (saying w p >>= k) r ≡ fail 20 p r
-unfolding saying outcome_in if◌then◌otherwise◌ shown_test ◌>>=◌ go_on fail
+unfolding saying if◌then◌otherwise◌ ◌>>=◌ go_on fail
 no_truth w p k n r = rw (ne_eqb _ _ n)
 
 asked : {A : Type 0} (p : ℕ) (v : Value) (k : Bool → Act A) → (saying (packed v) p >>= k) ≡ with_boolean p v k
-unfolding with_boolean saying outcome_in packed if◌then◌otherwise◌ shown_test ◌>>=◌ go_on
+unfolding with_boolean saying packed if◌then◌otherwise◌ ◌>>=◌ go_on give
 asked p (Integer z) k =
     let n : (1 + 8 * bits z) % 8 ≡ kind_truth → ⊥ = λ e. absurd (omega arith) in
     λ i r. no_truth (packed (Integer z)) p k n r i

@@ -196,7 +196,7 @@ module _ (inner : Evaluator) (e : Setting) (rounds a x p len : ℕ) where
   unfolding arguments_from if◌then◌otherwise◌
   by_argument t l = rw (root_is t l, lt-ltb (a + len) x l) (pushed_then inner (a + len) p (arguments_from rounds inner e (argument_after e (a + len + 1) x) x p))
 
-  by_no_argument : x ≤ a → arguments_from (suc rounds) inner e (argument_after e a x) x p ≡ Act.give Nothing
+  by_no_argument : x ≤ a → arguments_from (suc rounds) inner e (argument_after e a x) x p ≡ Act.give tt
   unfolding arguments_from argument_root if◌then◌otherwise◌
   by_no_argument l = rw (le-ltb (a + size_in (get_or e.code a 0)) x (omega arith), le-ltb x x (le_refl x))
 

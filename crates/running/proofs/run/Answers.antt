@@ -10,8 +10,8 @@ returns-then-not-is_sheet c = search run_no_sheet
 pub returns-then-program-gt32768 : goal.returns-then-program-gt32768
 returns-then-program-gt32768 c = search run_too_long
 
-pub run_read-r-requires : goal.run_read-r-requires
-run_read-r-requires c = search run_ready
+pub run_read-requires : goal.run_read-requires
+run_read-requires c = search run_ready
 
 pub returns : goal.returns
 returns c = search run_as_read

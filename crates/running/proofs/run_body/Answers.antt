@@ -1,25 +1,18 @@
 use native.Mathlib.Omega.{arith}
-use Rattle.running.proofs.Ways.{not_entered, body_starts, body_onward, body_returned, body_stopped}
-use Rattle.running.proofs.run_body.Reads as reads
-use Rattle.running.proofs.run_body.Lts as lts
-use Rattle.code.proofs.body_of.Reads as body-of-reads
-use Rattle.code.proofs.frame_of.Reads as frame-of-reads
-use Rattle.code.proofs.start_of.Reads as start-of-reads
-use Rattle.interpreter.proofs.body.Reads as body-Reads
-use Rattle.prologue.proofs.enter.Reads as enter-reads
+use mathlib.Core.Path.{refl}
+use Rattle.machine.proofs.Acts.{goes_in, stops_in, in_both, given}
+use Rattle.running.proofs.Ways.{body_by, body_starts}
 use Rattle.running.proofs.run_body.Goals as goal
 
-pub returns-in-Stopped : goal.returns-in-Stopped
-returns-in-Stopped c = not_entered _ _ _ _ _ _ c.ranges.width c.ranges.height _ _ c.start_of-a.ensures.0 c.frame_of.ensures.0 _ _ _ _ c.enter.ensures _ _ c.in-Stopped.is
+pub returns-in_err-enter : goal.returns-in_err-enter
+returns-in_err-enter c = body_by _ _ _ _ _ _ c.ranges.width c.ranges.height _ _ c.start_of-a.ensures.0 c.frame_of.ensures.0 _ refl (stops_in _ (in_both c.in_err-enter.ensures _) c.from_residual.ensures.1)
 
 pub body-requires : goal.body-requires
 body-requires c = body_starts _ _ _ _ _ _ c.requires (omega arith) c.start_of-a.ensures.1 (omega (arith, c.body_of.ensures.1))
 
-pub returns-in-Onward : goal.returns-in-Onward
-returns-in-Onward c = body_onward _ _ _ _ _ _ c.ranges.width c.ranges.height _ _ c.start_of-a.ensures.0 c.frame_of.ensures.0 _ _ _ _ c.enter.ensures c.in-Complete.is _ c.body_of.ensures.0 _ _ _ c.body.ensures c.in-Onward.is
+pub returns-in_err-body : goal.returns-in_err-body
+returns-in_err-body c = body_by _ _ _ _ _ _ c.ranges.width c.ranges.height _ _ c.start_of-a.ensures.0 c.frame_of.ensures.0 _ c.body_of.ensures.0 (goes_in _ (in_both c.in_ok-enter.ensures _)
+    (stops_in _ c.in_err-body.ensures c.from_residual-in_err-body.ensures.1))
 
-pub returns-in-Returned : goal.returns-in-Returned
-returns-in-Returned c = body_returned _ _ _ _ _ _ c.ranges.width c.ranges.height _ _ c.start_of-a.ensures.0 c.frame_of.ensures.0 _ _ _ _ c.enter.ensures c.in-Complete.is _ c.body_of.ensures.0 _ _ _ c.body.ensures _ c.in-Returned.is
-
-pub returns-in-Stopped-body : goal.returns-in-Stopped-body
-returns-in-Stopped-body c = body_stopped _ _ _ _ _ _ c.ranges.width c.ranges.height _ _ c.start_of-a.ensures.0 c.frame_of.ensures.0 _ _ _ _ c.enter.ensures c.in-Complete.is _ c.body_of.ensures.0 _ _ _ c.body.ensures _ _ c.in-Stopped-body.is
+pub returns : goal.returns
+returns c = body_by _ _ _ _ _ _ c.ranges.width c.ranges.height _ _ c.start_of-a.ensures.0 c.frame_of.ensures.0 _ c.body_of.ensures.0 (goes_in _ (in_both c.in_ok-enter.ensures _) (goes_in _ c.in_ok-body.ensures (in_both (given _) _)))

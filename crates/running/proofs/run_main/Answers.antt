@@ -1,15 +1,13 @@
+use mathlib.Core.Path.{refl}
+use Rattle.machine.proofs.Acts.{last_in}
 use Rattle.running.proofs.Ways.{still_room, main_stopped, main_left}
-use Rattle.running.proofs.run_main.Reads as reads
-use Rattle.running.proofs.run_main.Lts as lts
-use Rattle.prologue.proofs.leave.Reads as leave-reads
-use Rattle.running.proofs.run_body.Reads as run-body-reads
 use Rattle.running.proofs.run_main.Goals as goal
 
-pub leave-r-requires : goal.leave-r-requires
-leave-r-requires c = search still_room
+pub leave-requires : goal.leave-requires
+leave-requires c = search still_room
 
-pub returns-in-Complete : goal.returns-in-Complete
-returns-in-Complete c = search main_left
+pub returns-in_err-run_body : goal.returns-in_err-run_body
+returns-in_err-run_body c = last_in (main_stopped _ _ _ _ _ _ c.ranges.width c.ranges.height c.in_err-run_body.ensures refl) c.from_residual.ensures.1
 
-pub returns-in-Stopped : goal.returns-in-Stopped
-returns-in-Stopped c = search main_stopped
+pub returns : goal.returns
+returns c = main_left _ _ _ _ _ _ c.ranges.width c.ranges.height c.in_ok-run_body.ensures refl c.leave.ensures

@@ -1,11 +1,5 @@
 use native.Mathlib.Omega.{arith}
 use Rattle.running.proofs.Ways.{way_malformed, way_parameters, few_tokens, way_main}
-use Rattle.running.proofs.run_read.Reads as reads
-use Rattle.running.proofs.run_read.Lts as lts
-use Rattle.code.proofs.parameters_of.Reads as parameters-of-reads
-use Rattle.numbering.proofs.number.Reads as number-reads
-use Rattle.reader.proofs.read.Reads as read-reads
-use Rattle.running.proofs.run_main.Reads as run-main-reads
 use Rattle.running.proofs.run_read.Goals as goal
 
 pub returns-then-parameters_of-ne2 : goal.returns-then-parameters_of-ne2
@@ -21,4 +15,4 @@ returns-in-Err c = way_malformed _ _ _ _ _ _ _ c.requires _ _ _ c.in-Err.ensures
 pub returns-else-parameters_of-ne2 : goal.returns-else-parameters_of-ne2
 returns-else-parameters_of-ne2 c =
     way_main _ _ _ _ _ _ _ c.requires _ _ _ c.in-Ok.ensures.0 _ c.parameters_of.ensures.0 _ c.in-Ok.ensures.1 c.if-parameters_of-ne2.false (omega arith) _ _ _
-    c.number-main.ensures c.ranges.width c.ranges.height _ _ _ c.run_main-r.ensures
+    c.number-main.ensures c.ranges.width c.ranges.height _ _ _ c.run_main.ensures
