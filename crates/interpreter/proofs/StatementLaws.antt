@@ -12,14 +12,13 @@ use Rattle.machine.specs.Opcodes.{tag_in, size_in, place_in, extra_in, tag_decla
 use Rattle.machine.specs.declared.Value.{Value}
 use Rattle.machine.specs.declared.Value.TheVariants.{Integer, Text, Boolean, Nothing, Table, Shape}
 use Rattle.machine.specs.declared.Fault.{Fault}
-use Rattle.machine.specs.declared.Fault.TheVariants.{Misuse, NoStepLeft, Numbered}
+use Rattle.machine.specs.declared.Fault.TheVariants.{Misuse, NoStepLeft}
 use Rattle.machine.specs.declared.Flow.{Flow}
 use Rattle.machine.specs.declared.Flow.TheVariants.{Onward, Returned}
 use Rattle.machine.specs.Words.{kind_in, kind_shape, packed, unpacked}
 use Rattle.machine.specs.Layout.{fixed_words, steps_granted, Room}
 use Rattle.machine.specs.Act.{raw, Act, ◌>>=◌, give, fail, count, passed, out_of, Does, DoesIn}
 use Rattle.machine.specs.Tables.{store_entry}
-use Rattle.tables.specs.Asked.{Stores}
 use Rattle.machine.specs.Operate.{with_table}
 use Rattle.fastpath.specs.Fast.{Values}
 use Rattle.machine.specs.Evaluate.{Evaluator, Setting, setting}
@@ -114,15 +113,6 @@ module _ (eval : Evaluator) (e : Setting) (p : ℕ) {r : Result Flow Fault} {ts 
       → DoesIn ts ws (update_value eval e t (packed u) y p) r ts₁ ws₁
   unfolding update_value
   value_by t y u m h = rw m at h
-
-module _ {program g ts ws : List ℕ} {t key k number : ℕ} {ws₁ : List ℕ} (s : Stores program g ts ws t key k number ws₁) (p : ℕ) where
-  pub entry_refused : (number ≡ 0 → ⊥) → DoesIn ts ws (store_entry program g t key k p) (Err (Numbered number p)) ts ws₁
-  unfolding passed out_of
-  entry_refused n = record { equal = rw (← s.equal p, ne_eqb _ _ n) }
-
-  pub entry_stored : number ≡ 0 → DoesIn ts ws (store_entry program g t key k p) (Ok tt) ts ws₁
-  unfolding passed out_of
-  entry_stored n = record { equal = rw (← s.equal p, n) }
 
 pub not_table : {A : Type 0} (p : ℕ) {ts ws : List ℕ} (v : Value) (k : ℕ → Act A) → ((n : ℕ) → v ≡ Table n → ⊥) → DoesIn ts ws (with_table p v k) (Err (Misuse p)) ts ws
 unfolding with_table fail out_of

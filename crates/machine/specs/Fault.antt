@@ -1,7 +1,7 @@
 -- Why a run stops: its number in the language, and the place that it names.
 use Rattle.std.specs.Prelude.{ℕ}
 use Rattle.machine.specs.declared.Fault.{Fault}
-use Rattle.machine.specs.declared.Fault.TheVariants.{Misuse, Destroyed, NegativeSize, Undeclared, DeclaredTwice, DivisionByZero, NoSheet, TooLong, NoShapeLeft, NoEntryLeft, NoTextLeft, NoStepLeft, NoCallLeft, Numbered}
+use Rattle.machine.specs.declared.Fault.TheVariants.{Misuse, Destroyed, NegativeSize, Undeclared, DeclaredTwice, DivisionByZero, NoSheet, TooLong, NoShapeLeft, NoEntryLeft, NoTextLeft, NoStepLeft, NoCallLeft, NotRead}
 
 abbrev pub number_of : Fault → ℕ
 number_of (Misuse p) = 20
@@ -17,7 +17,7 @@ number_of (NoEntryLeft p) = 77
 number_of (NoTextLeft p) = 78
 number_of (NoStepLeft p) = 79
 number_of (NoCallLeft p) = 81
-number_of (Numbered n p) = n
+number_of (NotRead n p) = n
 
 abbrev pub place_of : Fault → ℕ
 place_of (Misuse p) = p
@@ -33,4 +33,4 @@ place_of (NoEntryLeft p) = p
 place_of (NoTextLeft p) = p
 place_of (NoStepLeft p) = p
 place_of (NoCallLeft p) = p
-place_of (Numbered n p) = p
+place_of (NotRead n p) = p

@@ -23,7 +23,7 @@ pub enum Answer {
     Bad(u64, u64),
 }
 
-// Why a run stops, with the place that it names.
+// Why a run stops, with the place that it names; the last for a program that was not read, with the number that reading gave.
 #[derive(Clone, Copy)]
 pub enum Fault {
     Misuse(u64),
@@ -39,7 +39,7 @@ pub enum Fault {
     NoTextLeft(u64),
     NoStepLeft(u64),
     NoCallLeft(u64),
-    Numbered(u64, u64),
+    NotRead(u64, u64),
 }
 
 impl Fault {
@@ -61,7 +61,7 @@ impl Fault {
             Fault::NoTextLeft(_) => 78,
             Fault::NoStepLeft(_) => 79,
             Fault::NoCallLeft(_) => 81,
-            Fault::Numbered(n, _) => n,
+            Fault::NotRead(n, _) => n,
         }
     }
 
@@ -82,7 +82,7 @@ impl Fault {
             Fault::NoTextLeft(p) => p,
             Fault::NoStepLeft(p) => p,
             Fault::NoCallLeft(p) => p,
-            Fault::Numbered(_, p) => p,
+            Fault::NotRead(_, p) => p,
         }
     }
 }

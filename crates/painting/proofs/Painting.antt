@@ -132,12 +132,12 @@ module _ (program code g texts words : List ℕ) (short : length program ≤ 327
   -- ---- a number
   module _ (steps : get_or words steps_used 0 ≡ 0) where
     pub read_malformed : (r : Malformed) → seen (Err r) code ≡ coded (tokens_in program) (reading program)
-        → Ran program g (reading_run program width height g) (Err (faults.Numbered r.number r.place)) texts words
+        → Ran program g (reading_run program width height g) (Err (faults.NotRead r.number r.place)) texts words
     unfolding seen coded coded_apart paint_read out_of understood named_apart Run.◌>>=◌ Run.go_on Run.fail
     read_malformed r left = go (reading program) left
       where
         by_name : (m : Tree.Program) (n : Option ℕ) → doubled [] m.procedures ≡ n → refused r.number r.place ≡ coded_apart (tokens_in program) m.procedures n
-            → Ran program g (paint_read (well_formed m) width height (suc (steps_granted g)) empty) (Err (faults.Numbered r.number r.place)) texts words
+            → Ran program g (paint_read (well_formed m) width height (suc (steps_granted g)) empty) (Err (faults.NotRead r.number r.place)) texts words
         by_name m none d h = formed_refused (sym h)
         by_name m (some p) d h =
             let x : r.number ≡ 60 = cc in
@@ -145,7 +145,7 @@ module _ (program code g texts words : List ℕ) (short : length program ≤ 327
             record { follows = λ granted gr. rw (x, y, d) (failed 60 p (raw texts words) steps) }
 
         go : (m : Reading) → seen (Err r) code ≡ coded (tokens_in program) m
-            → Ran program g (paint_read m width height (suc (steps_granted g)) empty) (Err (faults.Numbered r.number r.place)) texts words
+            → Ran program g (paint_read m width height (suc (steps_granted g)) empty) (Err (faults.NotRead r.number r.place)) texts words
         go (well_formed m) h = by_name m (doubled [] m.procedures) refl h
         go (malformed n p) h =
             let x : r.number ≡ n = cc in

@@ -27,7 +27,7 @@ use Rattle.interpreter.specs.Asked.{Body}
 use Rattle.interpreter.proofs.ExpressionLaws.{still_lent}
 use Rattle.std.specs.Prelude.{Result, Ok, Err}
 use Rattle.machine.specs.declared.Fault.{Fault}
-use Rattle.machine.specs.declared.Fault.TheVariants.{Misuse, NoSheet, TooLong, Numbered}
+use Rattle.machine.specs.declared.Fault.TheVariants.{Misuse, NoSheet, TooLong, NotRead}
 use Rattle.machine.proofs.Acts.{goes_in, fails_in}
 use Rattle.lending.specs.Lending.{Ready}
 use Rattle.prologue.specs.Prologue.{main_begins, main_ends, Blank}
@@ -91,7 +91,7 @@ few_tokens program code tokens₁ r left kept =
 
 module _ (program code g tokens unread ts ws : List ℕ) (ready : ReadyToRead program g tokens unread ts ws) (width height : ℤ) where
   pub way_malformed : (r : Malformed) → seen (Err r) code ≡ coded (tokens_in program) (reading program)
-      → Ran program g (reading_run program width height g) (Err (Numbered r.number r.place)) ts ws
+      → Ran program g (reading_run program width height g) (Err (NotRead r.number r.place)) ts ws
   way_malformed r left = read_malformed program code g ts ws ready.short width height (ready.blank.front steps_used (omega arith)) r left
 
   module _ (r : Program) (left : seen (Ok r) code ≡ coded (tokens_in program) (reading program)) (k : ℕ) (q : k ≡ parameters_in r.main) where

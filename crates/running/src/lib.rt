@@ -86,7 +86,7 @@ fn run_read(
         result texts.new words.new }
 {
     match reader::read(program, tokens, code) {
-        Err(m) => Err(Fault::Numbered(m.number, m.place as u64)),
+        Err(m) => Err(Fault::NotRead(m.number, m.place as u64)),
         Ok(p) => {
             if code::parameters_of(p.main) != 2 {
                 return Err(Fault::Misuse(0));

@@ -14,7 +14,7 @@ use Rattle.interpreter.proofs.ExpressionLaws.{push_first, push_fails, push_next,
 use Rattle.interpreter.proofs.CallLaws.{invoke_by, body_by}
 use Rattle.interpreter.proofs.Fast.{push_fast, push_slow}
 use Rattle.interpreter.proofs.StatementLaws.{still_lent, deeper_lent, no_shape_lem, worked_anew, evaluated_anew, simple_fast, test_fast, evaluated, simple_by}
-use Rattle.interpreter.proofs.StatementLaws.{update_by, key_by, value_by, entry_refused, entry_stored, not_table}
+use Rattle.interpreter.proofs.StatementLaws.{update_by, key_by, value_by, not_table}
 use Rattle.interpreter.proofs.StatementLaws.{statement_too_deep, statement_begun, is_loop, counted, is_declaration, is_update, is_when, is_foreach, is_block, is_simple}
 use Rattle.interpreter.proofs.StatementLaws.{leave_by, leave_fails, leave_gives, goes_onward, loop_first, loop_short, turn_is, loop_again}
 use Rattle.interpreter.proofs.StatementLaws.{all_short, all_done, all_fails, all_returns, all_again, all_left}
@@ -320,15 +320,15 @@ pub update-returns-in_err-z : goal.update-returns-in_err-z
 update-returns-in_err-z t c = update_by _ _ _ _ c.word_at.ensures c.before-b.ensures.0 c.word_at-2.ensures c.before-a.ensures.0 (goes_in _ (rw c.in-Table.is at c.in_ok-t.ensures)
     (key_by _ _ _ _ _ c.word_at.ensures c.before-b.ensures.0 (goes_in _ c.in_ok-u.ensures (value_by _ _ _ _ _ _ c.pack-key.ensures (stops_in _ c.in_err-z.ensures c.from_residual-in_err-z.ensures.1)))))
 
-pub update-returns-then-number-ne0 : goal.update-returns-then-number-ne0
-update-returns-then-number-ne0 t c = update_by _ _ _ _ c.word_at.ensures c.before-b.ensures.0 c.word_at-2.ensures c.before-a.ensures.0 (goes_in _ (rw c.in-Table.is at c.in_ok-t.ensures)
+pub update-returns-in_err-store_entry : goal.update-returns-in_err-store_entry
+update-returns-in_err-store_entry t c = update_by _ _ _ _ c.word_at.ensures c.before-b.ensures.0 c.word_at-2.ensures c.before-a.ensures.0 (goes_in _ (rw c.in-Table.is at c.in_ok-t.ensures)
     (key_by _ _ _ _ _ c.word_at.ensures c.before-b.ensures.0 (goes_in _ c.in_ok-u.ensures (value_by _ _ _ _ _ _ c.pack-key.ensures (goes_in _ c.in_ok-z.ensures
-    (rw (← c.pack.ensures) (fails_in _ (entry_refused c.store_entry-number.ensures _ c.if-number-ne0.true))))))))
+    (rw (← c.pack.ensures) (stops_in _ c.in_err-store_entry.ensures c.from_residual-in_err-store_entry.ensures.1)))))))
 
 pub update-returns : goal.update-returns
 update-returns t c = update_by _ _ _ _ c.word_at.ensures c.before-b.ensures.0 c.word_at-2.ensures c.before-a.ensures.0 (goes_in _ (rw c.in-Table.is at c.in_ok-t.ensures)
     (key_by _ _ _ _ _ c.word_at.ensures c.before-b.ensures.0 (goes_in _ c.in_ok-u.ensures (value_by _ _ _ _ _ _ c.pack-key.ensures (goes_in _ c.in_ok-z.ensures
-    (rw (← c.pack.ensures) (goes_in _ (entry_stored c.store_entry-number.ensures _ c.if-number-ne0.false) (in_both (given Onward) _))))))))
+    (rw (← c.pack.ensures) (goes_in _ c.in_ok-store_entry.ensures (in_both (given Onward) _))))))))
 
 pub when-returns-in_err-test : goal.when-returns-in_err-test
 unfolding when_at
