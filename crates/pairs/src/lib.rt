@@ -3,7 +3,7 @@
 
 ghost use Rattle.std.specs.Prelude.{◌+◌, ◌≡◌};
 ghost use Rattle.machine.specs.Act.{DoesIn};
-ghost use Rattle.machine.specs.Groups.{way_word, passed_from, first_at, count_at, alike_at};
+ghost use Rattle.machine.specs.Groups.{passed_from, first_at, count_at, alike_at};
 ghost use Rattle.machine.specs.Layout.{shapes_granted, Room};
 ghost use Rattle.machine.specs.Operate.{figures_same};
 ghost use Rattle.pairs.specs.Pairs.{both_laid, back_both, pair_level, Passing, Backs, Pairs, Kept, Within, Paired, PairedFirst, Follows, PairEnds, Meets};
@@ -45,20 +45,15 @@ fn passed_from(words: &[u64], grants: &[u64; 5], k: u32, n: u32) -> u32
     n
 }
 
-// A slot and how many components follow there.
-fn way_word(k: u32, n: u32) -> u64
-    ensures { result ≡ way_word k n 0 }
-{
-    k as u64 + 4294967296 * ((n % 65536) as u64)
-}
-
 // Keeps the ways at a depth.
 fn keep(words: &mut [u64], w: Ways)
     ensures { words.new ≡ both_laid words.old w.depth w.slot w.left w.other_slot w.other_left }
 {
     let at = shapes::place_of(w.depth) + 3;
-    words::put_word(words, at, way_word(w.slot, w.left));
-    words::put_word(words, at + 1, way_word(w.other_slot, w.other_left));
+    let way = walks::way_word(w.slot, w.left, 0);
+    let other_way = walks::way_word(w.other_slot, w.other_left, 0);
+    words::put_word(words, at, way);
+    words::put_word(words, at + 1, other_way);
 }
 
 // Back at a depth, behind the slots where it was left.

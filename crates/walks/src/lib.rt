@@ -38,7 +38,7 @@ fn way_place(d: u32) -> usize
 }
 
 // A slot, how many components follow there, and how many new ones wait.
-fn way_word(k: u32, n: u32, m: u64) -> u64
+pub fn way_word(k: u32, n: u32, m: u64) -> u64
     ensures { result ≡ way_word k n m }
 {
     k as u64 + 4294967296 * ((n % 65536) as u64) + 281474976710656 * (m % 65536)
