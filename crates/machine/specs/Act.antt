@@ -3,8 +3,6 @@ use Rattle.std.specs.Prelude.{ℕ, ◌+◌, ◌%◌, ◌^◌, ◌≡◌, Bool, t
 use Rattle.meaning.specs.Basics.{if◌then◌otherwise◌}
 use Rattle.machine.specs.declared.Value.{Value}
 use Rattle.machine.specs.declared.Value.TheVariants.{Table}
-use Rattle.machine.specs.declared.Answer.{Answer}
-use Rattle.machine.specs.declared.Answer.TheVariants.{Good, Bad}
 use Rattle.machine.specs.declared.Fault.{Fault}
 use Rattle.machine.specs.Fault.{number_of, place_of}
 use Rattle.machine.specs.Layout.{steps_used, steps_granted, tables_made}
@@ -88,30 +86,14 @@ pub record DoesIn {A : Type 0} (ts ws : List ℕ) (act : Act A) (answer : Result
 pub record Does {A : Type 0} (before : List ℕ) (act : Act A) (answer : Result A Fault) (after : List ℕ) : Type 0 where
   pub equal : (ts : List ℕ) → out_of answer ts after ≡ act (raw ts before)
 
-unfoldable pub shown : Answer → List ℕ → List ℕ → Out Value
-shown (Good v) ts ws = done v (raw ts ws)
-shown (Bad n p) ts ws = stop n p (raw ts ws)
+-- Code that cannot fail gives a result, whatever the text store holds,
+pub record Gives {A : Type 0} (before : List ℕ) (act : Act A) (result : A) (after : List ℕ) : Type 0 where
+  pub equal : (ts : List ℕ) → done result (raw ts after) ≡ act (raw ts before)
 
+-- or says whether an amount was paid; a shortage may have any number.
 unfoldable pub passed : Bool → ℕ → ℕ → List ℕ → List ℕ → Out (Unit {0})
 passed true n p ts ws = done tt (raw ts ws)
 passed false n p ts ws = stop n p (raw ts ws)
 
--- Code that is handed the words alone does what an act does, whatever the text store holds: with the words before and after, it answers so,
-pub record Answers (before : List ℕ) (act : Act Value) (answer : Answer) (after : List ℕ) : Type 0 where
-  pub equal : (ts : List ℕ) → shown answer ts after ≡ act (raw ts before)
-
--- says whether it passed (if not, the act stops with this number),
-pub record Passes (before : List ℕ) (number : ℕ) (act : ℕ → Act (Unit {0})) (ok : Bool) (after : List ℕ) : Type 0 where
-  pub equal : (p : ℕ) (ts : List ℕ) → passed ok number p ts after ≡ act p (raw ts before)
-
--- (the same where it is handed the text store too),
-pub record PassesIn (ts before : List ℕ) (number : ℕ) (act : ℕ → Act (Unit {0})) (ok : Bool) (after : List ℕ) : Type 0 where
-  pub equal : (p : ℕ) → passed ok number p ts after ≡ act p (raw ts before)
-
--- pays (a shortage may have any number),
 pub record Pays (before : List ℕ) (counter granted amount : ℕ) (ok : Bool) (after : List ℕ) : Type 0 where
   pub equal : (n p : ℕ) (ts : List ℕ) → passed ok n p ts after ≡ spend counter granted amount n p (raw ts before)
-
--- or gives a result.
-pub record Gives {A : Type 0} (before : List ℕ) (act : Act A) (result : A) (after : List ℕ) : Type 0 where
-  pub equal : (ts : List ℕ) → done result (raw ts after) ≡ act (raw ts before)

@@ -1,4 +1,4 @@
-// The types that the interpreter is written with. What its functions do to the lent slices is said in specs/; there is no function here.
+// The types that the interpreter is written with. What its functions do to the lent slices is said in specs/.
 
 #![tactic(auto)]
 
@@ -14,13 +14,6 @@ pub enum Value {
     Nothing,
     Table(u32),
     Shape(u32),
-}
-
-// What an evaluation gives: a value, or a number and its place.
-#[derive(Clone, Copy)]
-pub enum Answer {
-    Good(Value),
-    Bad(u64, u64),
 }
 
 // Why a run stops, with the place that it names; the last for a program that was not read, with the number that reading gave.
@@ -65,6 +58,7 @@ impl Fault {
         }
     }
 
+    // The place that it names.
     pub fn place(self) -> u64
         ensures { result ≡ place_of self }
     {

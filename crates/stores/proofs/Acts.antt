@@ -9,31 +9,12 @@ use lib.Dec.{leb}
 use borrow.Author.Tests.{leb-true, leb-false}
 use Rattle.meaning.specs.Basics.{if◌then◌otherwise◌}
 use Rattle.machine.specs.declared.Value.{Value}
-use Rattle.machine.specs.declared.Answer.TheVariants.{Good, Bad}
-use Rattle.machine.specs.Act.{Raw, raw, Out, done, stop, Act, go_on, ◌>>=◌, spend, shown, passed, out_of, Does, Answers, Passes, Pays, Gives}
+use Rattle.machine.specs.Act.{Raw, raw, Out, done, stop, Act, go_on, ◌>>=◌, spend, passed, out_of, Does, Pays, Gives}
 use Rattle.machine.specs.declared.Fault.{Fault}
 use Rattle.machine.specs.Fault.{number_of, place_of}
 use Rattle.std.specs.Prelude.{Ok, Err}
 
 -- ---- one act and then another
-module _ {B : Type 0} (k : Value → Act B) where
-  pub after_good : {ws ws' : List ℕ} {act : Act Value} {v : Value} (ts : List ℕ) → Answers ws act (Good v) ws' → (act >>= k) (raw ts ws) ≡ k v (raw ts ws')
-  unfolding ◌>>=◌ go_on shown
-  after_good ts h = ap (λ (o : Out Value). go_on o k) (sym (h.equal ts))
-
-  pub after_bad : {ws ws' : List ℕ} {act : Act Value} {n p : ℕ} (ts : List ℕ) → Answers ws act (Bad n p) ws' → (act >>= k) (raw ts ws) ≡ stop n p (raw ts ws')
-  unfolding ◌>>=◌ go_on shown
-  after_bad ts h = ap (λ (o : Out Value). go_on o k) (sym (h.equal ts))
-
-module _ {B : Type 0} (k : Unit {0} → Act B) {ws ws' : List ℕ} {number : ℕ} {act : ℕ → Act (Unit {0})} (p : ℕ) (ts : List ℕ) where
-  pub after_pass : Passes ws number act true ws' → (act p >>= k) (raw ts ws) ≡ k tt (raw ts ws')
-  unfolding ◌>>=◌ go_on passed
-  after_pass h = ap (λ (o : Out (Unit {0})). go_on o k) (sym (h.equal p ts))
-
-  pub after_refusal : Passes ws number act false ws' → (act p >>= k) (raw ts ws) ≡ stop number p (raw ts ws')
-  unfolding ◌>>=◌ go_on passed
-  after_refusal h = ap (λ (o : Out (Unit {0})). go_on o k) (sym (h.equal p ts))
-
 pub after_gift : {A B : Type 0} (k : A → Act B) {ws ws' : List ℕ} {act : Act A} {a : A} (ts : List ℕ) → Gives ws act a ws' → (act >>= k) (raw ts ws) ≡ k a (raw ts ws')
 unfolding ◌>>=◌ go_on
 after_gift {A} k ts h = ap (λ (o : Out A). go_on o k) (sym (h.equal ts))

@@ -16,7 +16,7 @@ use borrow.Author.Tests.{le-leb, lt-leb}
 use Rattle.meaning.specs.Integer.{bits}
 use Rattle.machine.specs.declared.Value.TheVariants.{Table, Shape}
 use Rattle.machine.specs.Layout.{steps_used, shapes_used, tables_made, arguments_held, calls_used, steps_granted, shapes_granted, stack_words, argument_place, shape_place, component_place, path_place, Room}
-use Rattle.machine.specs.Act.{go_on, give, fail, refuse, load, store, spend, count, new_table, passed, Does, Passes, Pays, Gives, ◌>>=◌, out_of, shown, Answers}
+use Rattle.machine.specs.Act.{go_on, give, fail, refuse, load, store, spend, count, new_table, passed, Does, Pays, Gives, ◌>>=◌, out_of}
 use Rattle.std.specs.Prelude.{Ok, Err}
 use Rattle.machine.specs.declared.Fault.TheVariants.{Misuse}
 use Rattle.machine.specs.declared.Figure.{Figure}
@@ -50,9 +50,6 @@ module _ (ws : List ℕ) (counter granted : ℕ) where
   pub pays_one : get_or ws counter 0 < granted → Pays ws counter granted 1 true (set ws counter (get_or ws counter 0 + 1))
   unfolding spend passed if◌then◌otherwise◌
   pays_one h = record { equal = λ n p ts. rw (le-leb (get_or ws counter 0 + 1) granted (omega arith)) }
-
-pub counts : (ws g ws' : List ℕ) (ok : Bool) → Pays ws steps_used (steps_granted g) 1 ok ws' → Passes ws 79 (count g) ok ws'
-counts ws g ws' ok h = record { equal = λ p ts. h.equal 79 p ts }
 
 pub makes_table : (ws : List ℕ) → Gives ws new_table (Table (get_or ws tables_made 0 % 4294967296)) (set ws tables_made (get_or ws tables_made 0 % 4294967296 + 1))
 unfolding new_table ◌>>=◌ go_on load store give

@@ -2,7 +2,7 @@
 ghost use Rattle.std.specs.Prelude.{◌<◌, ◌≤◌, length};
 ghost use Rattle.machine.specs.declared.Value.TheVariants.{Table};
 ghost use Rattle.machine.specs.Layout.{fixed_words};
-ghost use Rattle.machine.specs.Act.{Pays, Passes, Gives, Does, spend, count, new_table};
+ghost use Rattle.machine.specs.Act.{Pays, Gives, Does, spend, count, new_table};
 ghost use Rattle.machine.specs.Fault.{number_of, place_of};
 
 use machine::{Fault, counters, granted};
@@ -24,7 +24,7 @@ pub fn spend(words: &mut [u64], counter: usize, granted: u64, amount: u64) -> bo
 }
 
 // Adds one to a counter, if it then stays within the grant.
-pub fn spend_one(words: &mut [u64], counter: usize, granted: u64) -> bool
+fn spend_one(words: &mut [u64], counter: usize, granted: u64) -> bool
     requires { counter < length words.old }
     ensures { Pays words.old counter granted 1 result words.new }
 {
@@ -71,16 +71,6 @@ pub fn take_step(words: &mut [u64], grants: &[u64; 5], p: u64) -> Result<(), Fau
 {
     let limit = grants[granted::STEPS];
     pay_one(words, counters::STEPS, limit, Fault::NoStepLeft(p))
-}
-
-// Counts a step.
-pub fn count(words: &mut [u64], grants: &[u64; 5]) -> bool
-    requires { fixed_words ≤ length words.old }
-    ensures { Passes words.old 79 (count grants.now) result words.new }
-{
-    let limit = grants[granted::STEPS];
-    let ok = spend_one(words, counters::STEPS, limit);
-    ok
 }
 
 // The number of a new table.
