@@ -52,13 +52,10 @@ module _ (ws : List ℕ) (p n w : ℕ) (h : w ≡ holding ws n) where
   unfolding variable ◌>>=◌ go_on held refuse fail out_of
   unknown e = record { equal = λ ts. rw (← h, e) }
 
-  pub dead : (b : Bool) → (w ≡ 0 → ⊥) → b ≡ is_dead ws (unpacked w) → b ≡ true → Does ws (variable p n) (Err (Destroyed p)) ws
-  unfolding variable ◌>>=◌ go_on held refuse fail give usable out_of
-  dead b e d t = record { equal = λ ts. rw (← h, ne_eqb _ _ e, ← d, t) }
-
-  pub found : (b : Bool) (v : Value) → (w ≡ 0 → ⊥) → b ≡ is_dead ws (unpacked w) → b ≡ false → v ≡ unpacked w → Does ws (variable p n) (Ok v) ws
-  unfolding variable ◌>>=◌ go_on held refuse fail give usable out_of
-  found b v e d t q = record { equal = λ ts. rw (q, ← h, ne_eqb _ _ e, ← d, t) }
+-- behind a variable that is declared
+pub found : {ws : List ℕ} (p n : ℕ) {w : ℕ} {r : Result Value Fault} → w ≡ holding ws n → (w ≡ 0 → ⊥) → Does ws (usable p (unpacked w) >>= λ _. give (unpacked w)) r ws → Does ws (variable p n) r ws
+unfolding variable ◌>>=◌ go_on held refuse give
+found p n e h d = record { equal = λ ts. rw (← e, ne_eqb _ _ h) (d.equal ts) }
 
 module _ (ws : List ℕ) (at : ℕ) where
   pub sets_variable : (n v w : ℕ) → at ≡ argument_place (get_or ws frame 0 + n) → w ≡ with_word (get_or ws at 0) v → Gives ws (set_variable n v) tt (set ws at w)

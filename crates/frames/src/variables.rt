@@ -117,9 +117,7 @@ pub fn variable(words: &[u64], p: u64, n: usize) -> Result<Value, Fault>
     if w == 0 {
         return Err(Fault::Undeclared(p));
     }
-    if is_dead(words, w) {
-        return Err(Fault::Destroyed(p));
-    }
+    usable(words, w, p)?;
     Ok(values::unpack(w))
 }
 
