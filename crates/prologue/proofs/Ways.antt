@@ -19,7 +19,7 @@ use Rattle.machine.specs.Fault.{number_of, place_of}
 use Rattle.machine.specs.declared.Value.TheVariants.{Integer}
 use Rattle.machine.specs.Words.{packed}
 use Rattle.machine.specs.Layout.{calls_used, shapes_granted, entries_granted, calls_granted, argument_place, shape_place, entry_place, component_place, Room}
-use Rattle.machine.specs.Act.{raw, go_on, ◌>>=◌, give, fail, refuse, store, passed, Passes, Pays, Gives, out_of, Does, spend}
+use Rattle.machine.specs.Act.{raw, go_on, ◌>>=◌, give, fail, refuse, store, Gives, out_of, Does, spend}
 use Rattle.machine.specs.Variables.{set_variable}
 use Rattle.machine.specs.Procedures.{open_frame}
 use Rattle.machine.specs.Show.{show_scene}

@@ -11,7 +11,7 @@ use lib.Seq.{take-take, length-take-le, take_all, take-nil}
 use Rattle.meaning.specs.Basics.{if◌then◌otherwise◌, same_text, laid_over}
 use Rattle.machine.specs.declared.Value.TheVariants.{Text}
 use Rattle.machine.specs.Layout.{Lent}
-use Rattle.machine.specs.Act.{raw, go_on, load, give, spend, shown, Pays, ◌>>=◌, out_of, DoesIn, Does}
+use Rattle.machine.specs.Act.{raw, go_on, load, give, spend, ◌>>=◌, out_of, DoesIn, Does}
 use Rattle.machine.specs.Texts.{origin_in, start_in, size_in, part, text_of, laid_at, joined, put_joined, join_texts}
 use Rattle.stores.proofs.Acts.{paid, short, covered}
 use Rattle.texts.specs.Laying.{Lays, Laid}
