@@ -264,11 +264,11 @@ module _ (program code g ts rest : List ℕ) (u p : ℕ) where
   module _ (w v k : ℕ) (h : w % 2 ^ 32 ≡ head_name) (f : k ≡ holding (u ∷ rest) (number_in w)) (z : k ≡ 0 → ⊥) (q : unpacked v ≡ unpacked k) where
     name_gives : ((m : ℕ) → false ≡ is_dead (m ∷ rest) (unpacked k)) → (inner : Evaluator) (invoke : Invoke) (x n : ℕ)
         → expression_by inner invoke e w x p (raw ts (n ∷ rest)) ≡ done (unpacked v) (raw ts (n ∷ rest))
-    unfolding expression_by leaf if◌then◌otherwise◌ out_of
+    unfolding expression_by leaf if◌then◌otherwise◌ out_of usable ◌>>=◌ go_on refuse give
     name_gives dead inner invoke x m =
         let t : tag_in w ≡ tag_name = tag_below w tag_name (omega arith) h in
         let d : holding (m ∷ rest) (number_in w) ≡ k = ap word_in (elsewhere rest m u ((get_or (u ∷ rest) frame 0 + number_in w) % 262144)) ∙ sym f in
-        rw t (sym ((found (m ∷ rest) p (number_in w) k (sym d) false (unpacked v) z (dead m) refl q).equal ts))
+        rw t (sym ((found p (number_in w) {r = Ok (unpacked v)} (sym d) z (record { equal = λ ts. rw (← dead m, q) })).equal ts))
 
     name_leaf : (kind_in k ≡ 6 → ⊥) → Plain v → Leaf w v
     name_leaf n c = record { size = one_word w tag_name (omega arith) h; plain = c; gives = name_gives (λ m. not_dead (m ∷ rest) k n) }

@@ -99,6 +99,6 @@ left_room ws x h = record { steps = h.steps; shapes = h.shapes; entries = h.entr
 pub left_long : (ws : List ℕ) (x : ℕ) {n : ℕ} → n ≡ length (set ws calls_used x) → n ≡ length ws
 left_long ws x e = e ∙ length-set ws calls_used x
 
-pub left : {program ts g ws ws₁ : List ℕ} {r : Result (Unit {0}) Fault} {ws₂ : List ℕ} → ws₁ ≡ set ws calls_used 0 → Does ws₁ (show_scene (size_with program ts) g) r ws₂ → Does ws (main_ends program ts g) r ws₂
+pub left : (program ts g : List ℕ) {ws ws₁ : List ℕ} {r : Result (Unit {0}) Fault} {ws₂ : List ℕ} → ws₁ ≡ set ws calls_used 0 → Does ws₁ (show_scene (size_with program ts) g) r ws₂ → Does ws (main_ends program ts g) r ws₂
 unfolding main_ends ◌>>=◌ go_on store
-left e f = record { equal = λ us. f.equal us ∙ rw e }
+left program ts g e f = record { equal = λ us. f.equal us ∙ rw e }

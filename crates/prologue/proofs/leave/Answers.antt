@@ -6,4 +6,4 @@ pub measure_scene-requires : goal.measure_scene-requires
 measure_scene-requires c = left_room _ _ c.requires
 
 pub returns : goal.returns
-returns c = left refl c.measure_scene.ensures
+returns c = left _ _ _ refl c.measure_scene.ensures
