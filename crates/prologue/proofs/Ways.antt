@@ -93,9 +93,6 @@ module _ (g : List ℕ) (n : ℕ) (width height : ℤ) (ws : List ℕ) where
 pub left_room : {g : List ℕ} (ws : List ℕ) (x : ℕ) → Room g ws → Room g (set ws calls_used x)
 left_room ws x h = record { steps = h.steps; shapes = h.shapes; entries = h.entries; text = h.text; calls = h.calls; words = rw (length-set ws calls_used x) h.words }
 
-pub left_long : (ws : List ℕ) (x : ℕ) {n : ℕ} → n ≡ length (set ws calls_used x) → n ≡ length ws
-left_long ws x e = e ∙ length-set ws calls_used x
-
 module _ (program ts g ws ws₁ : List ℕ) (e : ws₁ ≡ set ws calls_used 0) (r : ℕ) (ws₂ : List ℕ) (f : Finishes ws₁ (show_scene (size_with program ts) g) r ws₂) where
   left_so : (us : List ℕ) → passed (eqb r 0) r 0 us ws₂ ≡ main_ends program ts g (raw us ws)
   unfolding main_ends ◌>>=◌ go_on store
