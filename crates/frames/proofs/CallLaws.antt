@@ -1,6 +1,6 @@
 -- Calls: what each way through the code does.
 use Prim.Native.Nat.{ℕ, ◌+◌, ◌-◌, ◌*◌, ◌%◌, ◌≤◌, ◌<◌}
-use mathlib.Core.Path.{◌≡◌, refl, ◌∙◌}
+use mathlib.Core.Path.{◌≡◌, refl}
 use Rattle.std.specs.Prelude.{Ok, Err}
 use Rattle.machine.specs.declared.Fault.TheVariants.{Misuse}
 use mathlib.Core.List.{List}
@@ -46,9 +46,6 @@ module _ (ws : List ℕ) (at : ℕ) where
 module _ (ws ws₁ : List ℕ) (c : ℕ) (l : length ws₁ ≡ length (set ws calls_used c)) where
   pub calls_long : fixed_words ≤ length ws → fixed_words ≤ length ws₁
   calls_long h = omega (arith, length-set ws calls_used c)
-
-  pub resumed_long : (ws₂ : List ℕ) → length ws₂ ≡ length ws₁ → length ws₂ ≡ length ws
-  resumed_long ws₂ k = k ∙ l ∙ length-set ws calls_used c
 
 pub resumed : (ws ws₁ ws₂ : List ℕ) (base c : ℕ) → c ≡ get_or ws calls_used 0 - 1 → Gives (set ws calls_used c) (recall c) tt ws₁ → Gives ws₁ (drop_to base) tt ws₂
     → Gives ws (resume base) tt ws₂

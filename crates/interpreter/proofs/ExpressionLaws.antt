@@ -29,9 +29,6 @@ still_lent g ts ws ts₁ ws₁ h a b =
     let r = h.room in
     record { room = record { steps = r.steps; shapes = r.shapes; entries = r.entries; text = r.text; calls = r.calls; words = rw b r.words }; texts = rw a h.texts }
 
-pub still_lent_words : (g ts ws ws₁ : List ℕ) → Lent g ts ws → length ws₁ ≡ length ws → Lent g ts ws₁
-still_lent_words g ts ws ws₁ h b = still_lent g ts ws ts ws₁ h refl b
-
 -- ---- operands
 module _ (inner : Evaluator) (e : Setting) (w x p : ℕ) {ts ws : List ℕ} where
   module _ {r : Result Value Fault} {ts' ws' : List ℕ} where

@@ -22,7 +22,6 @@ use Rattle.machine.specs.Groups.{component_at, first_at, count_at}
 use Rattle.machine.specs.Variables.{is_dead, usable, declare_once, set_variable}
 use Rattle.machine.specs.Operate.{with_shape, with_group}
 use Rattle.machine.specs.Loops.{look_in, look_behind, unmark_from, turn, following, turns_from, own_turn, own_from, loop_over}
-use Rattle.stores.proofs.Turns.{from_none}
 use Rattle.machine.proofs.Acts.{goes_in, fails_in, in_both, sure, given, failed}
 use Rattle.effects.specs.Looped.{opening, Enters}
 use Rattle.interpreter.specs.Asked.{Runs}
@@ -62,9 +61,6 @@ pub record Turning (body : Act Flow) (g : List ℕ) (fuel b : ℕ) (ts₀ ws₀ 
   pub rest : turns_from turns body g p slot end first (raw ts₀ ws₀) ≡ turns_from (turns - i) body g p slot end found (raw ts ws)
 
 module _ {body : Act Flow} {g : List ℕ} {fuel b : ℕ} {ts₀ ws₀ : List ℕ} {p slot end first turns : ℕ} where
-  pub turns_first : Runs g ts₀ ws₀ fuel b → Turning body g fuel b ts₀ ws₀ p slot end first turns ts₀ ws₀ first 0
-  turns_first s = record { runs = s; texts = refl; words = refl; rest = rw (from_none turns) refl }
-
   module _ {ts ws : List ℕ} {found i : ℕ} (l : Turning body g fuel b ts₀ ws₀ p slot end first turns ts ws found i) where
     pub turns_short : turns ≤ i → DoesIn ts₀ ws₀ (turns_from turns body g p slot end first) (Err (NoStepLeft p)) ts ws
     unfolding turns_from
@@ -122,9 +118,6 @@ pub record Owning (body : Act Flow) (g : List ℕ) (fuel b : ℕ) (ts₀ ws₀ :
   pub rest : own_from body g p slot first (end - first) (raw ts₀ ws₀) ≡ own_from body g p slot k (end - k) (raw ts ws)
 
 module _ {body : Act Flow} {g : List ℕ} {fuel b : ℕ} {ts₀ ws₀ : List ℕ} {p slot first end : ℕ} where
-  pub owning_first : Runs g ts₀ ws₀ fuel b → Owning body g fuel b ts₀ ws₀ p slot first end ts₀ ws₀ first
-  owning_first s = record { runs = s; texts = refl; words = refl; rest = refl }
-
   module _ {ts ws : List ℕ} {k : ℕ} (l : Owning body g fuel b ts₀ ws₀ p slot first end ts ws k) where
     put_back : (unit : ℕ) {f : Flow} {ts₁ ws₁ ws₂ : List ℕ} → DoesIn ts₀ ws₀ (own_from body g p slot first (end - first)) (Ok f) ts₁ ws₁ → ws₂ ≡ set ws₁ loop_unit unit → DoesIn ts₀ ws₀ (own_from body g p slot first (end - first) >>= left unit) (Ok f) ts₁ ws₂
     unfolding store

@@ -16,11 +16,10 @@ use Rattle.machine.specs.declared.Fault.TheVariants.{Misuse, NoStepLeft}
 use Rattle.machine.specs.declared.Flow.{Flow}
 use Rattle.machine.specs.declared.Flow.TheVariants.{Onward, Returned}
 use Rattle.machine.specs.Words.{kind_in, kind_shape, packed, unpacked}
-use Rattle.machine.specs.Layout.{fixed_words, steps_granted, Room}
+use Rattle.machine.specs.Layout.{fixed_words, steps_granted}
 use Rattle.machine.specs.Act.{raw, Act, ◌>>=◌, give, fail, count, passed, out_of, Does, DoesIn}
 use Rattle.machine.specs.Tables.{store_entry}
 use Rattle.machine.specs.Operate.{with_table}
-use Rattle.fastpath.specs.Fast.{Values}
 use Rattle.machine.specs.Evaluate.{Evaluator, Setting, setting}
 use Rattle.machine.specs.Effects.{declaring, finishing, saying}
 use Rattle.machine.specs.Execute.{Executor, simple_at, update_value, update_in, update_at, test_of, continue, when_at, turning, looping, repeat_at, foreach_at, statements_from, counted_at, statement_by}
@@ -43,12 +42,6 @@ module _ (g ts ws ts₁ ws₁ : List ℕ) (i : length ts₁ ≡ length ts) (j : 
 
   pub still_runs : (fuel x : ℕ) → Runs g ts ws fuel x → Runs g ts₁ ws₁ fuel x
   still_runs fuel x s = record { lent = still_lent fuel s.lent; room = s.room }
-
-pub still_room : (g ts ws ws₁ : List ℕ) (fuel : ℕ) → Lent g ts ws fuel → length ws₁ ≡ length ws → Room g ws₁
-still_room g ts ws ws₁ fuel l j = (laws.still_lent g ts ws ts ws₁ l.lent refl j).room
-
-pub slow_lent : {word steps : ℕ} (g ts ws : List ℕ) (fuel k : ℕ) (ws₁ : List ℕ) → Values word steps g ws k ws₁ → k ≡ 0 → Lent g ts ws fuel → Lent g ts ws₁ fuel
-slow_lent g ts ws fuel k ws₁ h z l = rw (unchanged g ws k ws₁ h z) l
 
 -- one level deeper
 pub deeper_lent : (g ts ws : List ℕ) (fuel : ℕ) → Lent g ts ws fuel → Lent g ts ws (fuel - 1)
@@ -253,13 +246,7 @@ pub record Following (e : Setting) (fuel : ℕ) (ts₀ ws₀ : List ℕ) (a end 
       ≡ statements_from (rounds - i) (statement_at fuel e) e at end (raw ts ws)
 
 module _ {e : Setting} {fuel : ℕ} {ts₀ ws₀ : List ℕ} {a end rounds : ℕ} where
-  pub all_first : Runs e.grants ts₀ ws₀ fuel end → Following e fuel ts₀ ws₀ a end rounds ts₀ ws₀ a 0
-  all_first s = record { runs = s; texts = refl; words = refl; rest = rw (from_none rounds) refl }
-
   module _ {ts ws : List ℕ} {at i : ℕ} (l : Following e fuel ts₀ ws₀ a end rounds ts ws at i) where
-    pub runs_before : at < end → Runs e.grants ts ws fuel at
-    runs_before b = record { lent = l.runs.lent; room = omega (arith, l.runs.room) }
-
     pub all_short : rounds ≤ i → DoesIn ts₀ ws₀ (statements_in fuel e rounds a end) (Ok Onward) ts ws
     unfolding statements_from
     all_short z =
@@ -305,9 +292,6 @@ module _ {e : Setting} {fuel : ℕ} {ts₀ ws₀ : List ℕ} {a end rounds : ℕ
           unfolding returned result_of
           all_left {r = Ok v} h = goes_in result_of (all_returns h) (in_both (given v) ts₁)
           all_left {r = Err f} h = fails_in result_of (all_fails h)
-
-        pub leaves_here : {w tag : ℕ} → w ≡ get_or e.code at 0 → tag ≡ tag_in w → tag ≡ tag_return → Leaves e.code e.grants ts ws fuel w at
-        leaves_here f i t = record { runs = runs_before b; word = f; tagged = sym i ∙ t }
 
 -- ---- a body
 pub in_body : (e : Setting) (fuel a n : ℕ) {r : Result Flow Fault} {ts ws ts₁ ws₁ : List ℕ}

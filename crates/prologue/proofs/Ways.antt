@@ -96,9 +96,6 @@ module _ (g : List ℕ) (n : ℕ) (width height : ℤ) (ws : List ℕ) where
 pub left_room : {g : List ℕ} (ws : List ℕ) (x : ℕ) → Room g ws → Room g (set ws calls_used x)
 left_room ws x h = record { steps = h.steps; shapes = h.shapes; entries = h.entries; text = h.text; calls = h.calls; words = rw (length-set ws calls_used x) h.words }
 
-pub left_long : (ws : List ℕ) (x : ℕ) {n : ℕ} → n ≡ length (set ws calls_used x) → n ≡ length ws
-left_long ws x e = e ∙ length-set ws calls_used x
-
 pub left : (program ts g : List ℕ) {ws ws₁ : List ℕ} {r : Result (Unit {0}) Fault} {ws₂ : List ℕ} → ws₁ ≡ set ws calls_used 0 → Does ws₁ (show_scene (size_with program ts) g) r ws₂ → Does ws (main_ends program ts g) r ws₂
 unfolding main_ends ◌>>=◌ go_on store
 left program ts g e f = record { equal = λ us. f.equal us ∙ rw e }
