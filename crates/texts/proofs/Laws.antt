@@ -1,21 +1,21 @@
 -- What each way through the code does, and what a joined text holds.
-use mathlib.Core.Path.{◌≡◌, ◌∙◌, refl, sym, ap}
-use mathlib.Core.Bool.{Bool, true, false, not}
-use mathlib.Core.List.{List, ◌++◌, []}
-use Prim.Native.Nat.{ℕ, ◌+◌, ◌*◌, ◌%◌, ◌≤◌, ◌<◌, zero, suc, ◌-◌}
+use mathlib.Core.Path.{◌≡◌, ◌∙◌}
+use mathlib.Core.Bool.{Bool, true, false}
+use mathlib.Core.List.{List, ◌++◌}
+use Prim.Native.Nat.{ℕ, ◌+◌, ◌%◌, ◌≤◌, ◌<◌}
 use native.Mathlib.Omega.{arith}
-use borrow.Author.Tests.{ne_eqb, le-leb, lt-leb, not-true, not-false, eqb-true, eqb-false}
+use borrow.Author.Tests.{ne_eqb}
 use lib.Dec.{eqb}
-use lib.ListN.{length, get_or, take, drop, length-take, length-drop, drop_of_length-le}
-use lib.Seq.{take-take, length-take-le, take_all, take-nil}
-use Rattle.meaning.specs.Basics.{if◌then◌otherwise◌, same_text, laid_over}
-use Rattle.machine.specs.declared.Value.TheVariants.{Text}
+use lib.ListN.{length, get_or, take, drop, length-take}
+use lib.Seq.{take-take}
+use Rattle.meaning.specs.Basics.{if◌then◌otherwise◌, same_text}
 use Rattle.machine.specs.Layout.{Lent}
-use Rattle.machine.specs.Act.{raw, go_on, load, give, spend, ◌>>=◌, out_of, DoesIn, Does}
-use Rattle.machine.specs.Texts.{origin_in, start_in, size_in, part, text_of, laid_at, joined, put_joined, join_texts}
-use Rattle.stores.proofs.Acts.{paid, short, covered}
+use Rattle.machine.specs.Act.{spend, out_of, DoesIn, Does}
+use Rattle.machine.specs.Texts.{origin_in, start_in, size_in, part, text_of, laid_at, joined, put_joined}
+use Rattle.stores.proofs.Acts.{covered}
+use Rattle.writing.specs.Placed.{Wrote}
 use Rattle.texts.specs.Laying.{Lays, Laid}
-use Rattle.texts.proofs.Layer.{laid_laid, kept_laid, over_is, part_take, part_clip, length_part}
+use Rattle.texts.proofs.Layer.{laid_laid, kept_laid}
 use Rattle.std.specs.Prelude.{Ok}
 use Rattle.texts.proofs.Comparison.{same_self}
 
@@ -48,18 +48,11 @@ text_short program d h = go (eqb (origin_in h) 0)
 
 module _ (program texts : List ℕ) (used at h : ℕ) (y : Lays texts used at h) (before behind x : List ℕ)
     (e : before ≡ take at texts) (f : behind ≡ drop at texts) (t : x ≡ text_of program (take used before) h) where
-  pub text_fits : length x ≤ length behind
-  text_fits = rw (t, f) (omega (arith, text_short program (take used before) h, length-drop at texts, y.fits))
-
-  pub text_room : length (take (length x) behind) ≡ length x
-  text_room = length-take-le (length x) behind text_fits
-
-  pub text_lays : (out : List ℕ) → out ≡ x → Laid program texts used at h (at + length x) (before ++ (out ++ drop (length x) behind))
+  pub text_lays : (n : ℕ) (behind' : List ℕ) → Wrote x behind behind' n → Laid program texts used at h (at + length x) (before ++ behind')
   unfolding laid_at
-  text_lays out q =
+  text_lays n behind' w =
       let r : x ≡ text_of program (take used texts) h = t ∙ rw (e, take-take used at texts y.behind) in
-      let s : x ++ drop (length x) behind ≡ laid_over x (drop at texts) = over_is x behind text_fits ∙ rw f in
-      record { upto = rw (← r); holds = rw (← r, q, s, e) }
+      record { upto = rw (← r); holds = rw (← r, w.laid, e, f) }
 
 -- ---- two texts joined
 module _ (program texts words grants : List ℕ) (p a b x y : ℕ) (words' : List ℕ) (e : x ≡ size_in a) (f : y ≡ size_in b)

@@ -29,12 +29,6 @@ over_front [] d h = refl
 over_front (x ∷ xs) [] h = absurd (not-suc-le-zero h)
 over_front (x ∷ xs) (y ∷ d) h = ap (λ (l : List ℕ). x ∷ l) (over_front xs d (le_of_suc-le-suc h))
 
-pub over_is : (xs d : List ℕ) → length xs ≤ length d → xs ++ drop (length xs) d ≡ laid_over xs d
-unfolding laid_over
-over_is [] d h = refl
-over_is (x ∷ xs) [] h = absurd (not-suc-le-zero h)
-over_is (x ∷ xs) (y ∷ d) h = ap (λ (l : List ℕ). x ∷ l) (over_is xs d (le_of_suc-le-suc h))
-
 -- ---- from a place on
 pub length_laid : (d : List ℕ) (at : ℕ) (xs : List ℕ) → length (laid_at d at xs) ≡ length d
 unfolding laid_at

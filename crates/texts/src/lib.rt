@@ -61,7 +61,7 @@ fn put_text(program: &[u8], texts: &mut [u8], used: usize, at: usize, h: u64) ->
 {
     let (before, behind) = texts.split_at_mut(at);
     let text = text_of(program, &before[..used], h);
-    behind[..text.len()].copy_from_slice(text);
+    writing::write_bytes(behind, text);
     at + text.len()
 }
 

@@ -4,10 +4,11 @@ use mathlib.Core.List.{List, [], ◌∷◌, ◌++◌, append-nil, append_assoc}
 use mathlib.Core.Path.{◌≡◌, ◌∙◌, refl, sym, ap}
 use Prim.Native.Nat.{ℕ, zero, suc, ◌+◌, ◌-◌, ◌^◌, min, ◌≤◌, ◌<◌}
 use native.Mathlib.Decide.{dec_lt}
+use native.Mathlib.Numerals.{add-one}
 use native.Mathlib.Omega.{arith}
 use borrow.Rule.Slice.PartMut.{put_mid}
-use lib.ListN.{length, set, take, drop, length-append, length-drop, take-append-drop, drop_of_length-le}
-use lib.Seq.{take_all, drop-nil, take-nil}
+use lib.ListN.{length, get_or, set, take, drop, length-append, length-drop, take-append-drop, drop_of_length-le}
+use lib.Seq.{drop-cons, take_all, take_at, drop-nil, take-nil}
 use Rattle.meaning.specs.Basics.{laid_over}
 use Rattle.writing.specs.Placed.{laid_at, saturated, Wrote, WroteAt}
 
@@ -44,16 +45,6 @@ over_clipped n b [] h = over_empty (take n b) ∙ sym (over_empty b)
 over_clipped n [] (y ∷ d) h = rw (take-nil n)
 over_clipped zero (x ∷ b) (y ∷ d) h = absurd (omega arith)
 over_clipped (suc n) (x ∷ b) (y ∷ d) h = ap (λ (l : List ℕ). x ∷ l) (over_clipped n b d (omega arith))
-
--- so many of the first as fit, and what is left of the second
-over_parts : (n : ℕ) (b d : List ℕ) → n ≡ min (length b) (length d) → take n b ++ drop n d ≡ laid_over b d
-unfolding laid_over
-over_parts zero [] d h = refl
-over_parts zero (x ∷ b) [] h = refl
-over_parts zero (x ∷ b) (y ∷ d) h = absurd (omega arith)
-over_parts (suc n) [] d h = absurd (omega arith)
-over_parts (suc n) (x ∷ b) [] h = absurd (omega arith)
-over_parts (suc n) (x ∷ b) (y ∷ d) h = ap (λ (l : List ℕ). x ∷ l) (over_parts n b d (omega arith))
 
 -- ---- from a place on
 pub at_zero : (b d : List ℕ) → laid_at 0 b d ≡ laid_over b d
@@ -154,15 +145,6 @@ lent {at} {n} {r} {b} {d} h w e =
       ends = rw (← w.counts) e;
     }
 
--- as many as there is room for are copied
-pub copied : {at k m n r : ℕ} {b d y after : List ℕ} → n ≡ min (length b) (length d - at) → k ≡ n → m ≡ n → y ≡ take m b
-    → after ≡ put_mid at k d y → r ≡ min (at + length b) (2 ^ 64 - 1) → WroteAt at b d after r
-unfolding laid_at saturated
-copied {at} {k} {m} {n} {r} {b} {d} h p q y o e = rw (o, y, p, q) (record {
-  laid = ap (λ (l : List ℕ). take at d ++ l) (over_parts n b (drop at d) (h ∙ ap (λ (m : ℕ). min (length b) m) (sym (length-drop at d))));
-  ends = e;
-})
-
 -- none where there is no room
 pub beyond : {at r : ℕ} {b d after : List ℕ} → length d ≤ at → after ≡ d → r ≡ min (at + length b) (2 ^ 64 - 1) → WroteAt at b d after r
 unfolding saturated
@@ -171,6 +153,44 @@ beyond {at} {r} {b} {d} h o e = rw o (record { laid = sym (at_beyond at b d h); 
 -- past the end
 pub past : {at n r : ℕ} {b d : List ℕ} → length d < at → n ≡ length b → r ≡ min (at + n) (2 ^ 64 - 1) → WroteAt at b d d r
 past h w e = beyond (omega arith) refl (rw (← w) e)
+
+-- ---- a loop that writes b from at on over what was there: i bytes are laid, rest is left
+pub record Going (at : ℕ) (b rest before now : List ℕ) (i : ℕ) : Type 0 where
+  pub done : List ℕ
+  pub count : length done ≡ i
+  pub parts : b ≡ done ++ rest
+  pub holds : now ≡ laid_at at done before
+
+pub begin : (at : ℕ) (b before : List ℕ) → Going at b b before before 0
+unfolding laid_at laid_over
+begin at b before = record { done = []; count = refl; parts = refl; holds = sym (take-append-drop at before) }
+
+pub lay : {at i x : ℕ} {b rest rest' before now : List ℕ} → Going at b rest before now i → rest ≡ x ∷ rest'
+    → Going at b rest' before (set now (at + i) x) (i + 1)
+lay {at} {i} {x} {b} {rest} {rest'} {before} {now} g e = record {
+  done = g.done ++ x ∷ [];
+  count = length-append g.done (x ∷ []) ∙ ap (λ (m : ℕ). m + 1) g.count;
+  parts = g.parts ∙ ap (λ (l : List ℕ). g.done ++ l) e ∙ sym (append_assoc g.done (x ∷ []) rest');
+  holds = rw (g.holds, ← g.count) (sym (at_more at g.done x before));
+}
+
+pub lay_next : {at i : ℕ} {b before now : List ℕ} → Going at b (drop i b) before now i → i < length b
+    → Going at b (drop (i + 1) b) before (set now (at + i) (get_or b i 0)) (i + 1)
+lay_next {i = i} {b = b} g h = lay g (rw add-one (drop-cons b i 0 h))
+
+pub kept : {at i : ℕ} {b rest before now : List ℕ} → Going at b rest before now i → length now ≡ length before
+kept {at} {i} {b} {rest} {before} g = rw g.holds (length_at at g.done before)
+
+-- as many as there is room for are laid
+pub end : {at n r : ℕ} {b rest before now : List ℕ} → Going at b rest before now n → n ≡ min (length b) (length before - at)
+    → r ≡ min (at + length b) (2 ^ 64 - 1) → WroteAt at b before now r
+unfolding saturated
+end {at} {n} {r} {b} {rest} {before} {now} g h e = record {
+  laid =
+      g.holds ∙ ap (λ (l : List ℕ). laid_at at l before) (sym (take_at g.done rest n g.count))
+      ∙ ap (λ (l : List ℕ). laid_at at (take n l) before) (sym g.parts) ∙ at_clipped at n b before h;
+  ends = e;
+}
 
 -- ---- a loop that writes b from its end to its front: what stands behind the first i bytes is laid, they are left
 pub record Backward (at : ℕ) (b rest before now : List ℕ) (i : ℕ) : Type 0 where

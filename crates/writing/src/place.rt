@@ -10,12 +10,13 @@ pub fn saturating_add(m: usize, n: usize) -> usize
     m.saturating_add(n)
 }
 
+// As many bytes as fit. They are stored one by one: `copy_from_slice` would make the library for C ask for `memcpy` and `memmove`.
 pub fn write_bytes_at(out: &mut [u8], at: usize, bytes: &[u8]) -> usize
     ensures { WroteAt at bytes.now out.old out.new result }
 {
-    if at < out.len() {
-        let fits = bytes.len().min(out.len() - at);
-        out[at..at + fits].copy_from_slice(&bytes[..fits]);
+    let fits = bytes.len().min(out.len().saturating_sub(at));
+    for i in 0..fits {
+        out[at + i] = bytes[i];
     }
     at.saturating_add(bytes.len())
 }

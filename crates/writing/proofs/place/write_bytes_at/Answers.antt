@@ -1,13 +1,14 @@
--- `writing::place::write_bytes_at` meets its contract: what fits is copied, or there is no room.
+-- `writing::place::write_bytes_at` meets its contract: the invariant says which bytes are laid and which are left.
 -- Assumes nothing.
 use native.Mathlib.Omega.{arith}
-use Rattle.writing.proofs.Laying.{copied, beyond}
+use Rattle.writing.proofs.Laying.{begin, lay_next, end}
 use Rattle.writing.proofs.place.write_bytes_at.Goals as goal
-use Rattle.writing.proofs.place.write_bytes_at.Goals.{then-at-out, else-at-out}
+
+pub loop-i-init : goal.loop-i-init
+loop-i-init c = begin _ _ _
+
+pub loop-i-preserved : goal.loop-i-preserved
+loop-i-preserved c = lay_next c.loop-i.invariant (omega arith)
 
 pub returns : goal.returns
-returns c =
-    elim c.if-at-out.branch [
-      | then-at-out w ↦ copied w.min-fits.ensures (omega arith) (omega arith) w.copy_from_slice.ensures.after w.out-is c.saturating_add.ensures
-      | else-at-out w ↦ beyond w.if-at-out.false w.out-is c.saturating_add.ensures
-    ]
+returns c = end c.loop-i.invariant (omega arith) c.saturating_add.ensures
