@@ -10,11 +10,13 @@ pub fn clear_words(words: &mut [u64])
     words.fill(0);
 }
 
-// Zeros in a whole slice of bytes. One generic function for both would say no more than `fill` does.
+// Zeros in a whole slice of bytes, one by one: an edit of this loop can leave out a byte, and one of a call of `fill` cannot.
 pub fn clear_bytes(bytes: &mut [u8])
     ensures { bytes.new ≡ replicate (length bytes.old) 0 }
 {
-    bytes.fill(0);
+    for k in 0..bytes.len() {
+        bytes[k] = 0;
+    }
 }
 
 // The word at a place; past the end it is 0.
