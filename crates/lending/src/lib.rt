@@ -75,8 +75,8 @@ pub fn clear(tokens: &mut [u64], code: &mut [u64], words: &mut [u64], texts: &mu
     ensures words_after { words.new ≡ replicate (length words.old) 0 }
     ensures texts_after { texts.new ≡ replicate (length texts.old) 0 }
 {
-    tokens.fill(0);
-    code.fill(0);
-    words.fill(0);
-    texts.fill(0);
+    slices::clear_words(tokens);
+    slices::clear_words(code);
+    slices::clear_words(words);
+    slices::clear_bytes(texts);
 }
