@@ -34,8 +34,13 @@ zeroed_is ws at (suc n) l =
     zeroed_is (set ws at 0) (at + 1) n k
     ∙ rw (take_more_set ws at 0 m, drop-set-lt (at + 1 + n) ws at 0 (omega arith), q) (append_assoc (take at ws) (0 ∷ []) (replicate n 0 ++ drop (at + 1 + n) ws))
 
-pub cleared : (ws e : List ℕ) (at n : ℕ) → at + n ≤ length ws → e ≡ replicate (length (mid_of at (at + n - at) ws)) 0 → put_mid at (at + n - at) ws e ≡ zeroed ws at n
-cleared ws e at n l h = let q : at + n - at ≡ n = omega arith in rw (h, Post-is at (at + n) ws (omega arith), mid_len at (at + n) ws l, q) (sym (zeroed_is ws at n l))
+pub cleared : (ws e : List ℕ) (at n from to : ℕ) → at + n ≤ length ws → from ≡ at → to ≡ at + n → e ≡ replicate (length (mid_of from (to - from) ws)) 0
+    → put_mid from (to - from) ws e ≡ zeroed ws at n
+cleared ws e at n from to l f t h =
+    let q : to - from ≡ n = omega arith in
+    let m : mid_of from (to - from) ws ≡ mid_of at (at + n - at) ws = rw (f, t) in
+    let p : at + n - at ≡ n = omega arith in
+    rw (h, m, f, t) (rw (Post-is at (at + n) ws (omega arith), mid_len at (at + n) ws l, p) (sym (zeroed_is ws at n l)))
 
 -- ---- a component
 module _ (g : List ℕ) {ws : List ℕ} (m p : ℕ) {ws₁ : List ℕ} (h : Does ws (spend entries_used (entries_granted g) 1 m p) (Ok tt) ws₁) where

@@ -1,3 +1,5 @@
+-- `tables::entries::put_value` meets its contract: an entry that is found is overwritten, and else one is added.
+-- Assumes nothing.
 use native.Mathlib.Omega.{arith}
 use Rattle.tables.proofs.EntryLaws.{found_small, found_room, stores_new, stores_old}
 use Rattle.tables.proofs.entries.put_value.Goals as goal

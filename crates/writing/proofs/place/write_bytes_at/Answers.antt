@@ -11,4 +11,4 @@ pub loop-i-preserved : goal.loop-i-preserved
 loop-i-preserved c = lay_next c.loop-i.invariant (omega arith)
 
 pub returns : goal.returns
-returns c = end c.loop-i.invariant (omega arith) c.saturating_add.ensures
+returns c = end c.loop-i.invariant (omega arith) (omega arith)
