@@ -37,6 +37,6 @@ returns-then-not-is_group c = turn_figure _ _ _ _ _ _ c.requires c.if-w-eq0.fals
 
 pub returns : goal.returns
 unfolding destroy_reached
-returns c = turn_group _ _ _ _ _ _ c.requires c.if-w-eq0.false _ c.component_at-c.ensures _
-    c.is_destroyed.ensures c.if-is_destroyed.false (destroying_steady _) (goes _ c.in_ok-take_step.ensures (sure c.destroy.ensures))
+returns c = turn_group _ _ _ _ _ _ c.requires c.if-w-eq0.false _ c.component_at-c.ensures _ c.is_destroyed.ensures c.if-is_destroyed.false
+    (destroying_steady _) (goes _ c.in_ok-take_step.ensures (sure c.destroy.ensures))
     (c.destroy.auto.words ∙ c.take_step.auto.words) _ c.is_group.ensures c.if-not-is_group.false c.descend.ensures
