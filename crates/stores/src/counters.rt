@@ -24,7 +24,7 @@ pub fn spend(words: &mut [u64], counter: usize, granted: u64, amount: u64) -> bo
 }
 
 // Adds one to a counter, if it then stays within the grant.
-fn spend_one(words: &mut [u64], counter: usize, granted: u64) -> bool
+pub fn spend_one(words: &mut [u64], counter: usize, granted: u64) -> bool
     requires { counter < length words.old }
     ensures { Pays words.old counter granted 1 result words.new }
 {
